@@ -1,0 +1,5 @@
+pub mod Laws
+pub mod Airtimes
+pub mod Chances
+pub mod Margins
+pub mod Order

@@ -1,0 +1,64 @@
+ghost use mathlib.Core.Path.{_≡_};
+ghost use Rattle.std.specs.declared.option.Option.the-variants.{Some};
+ghost use Rattle.std.specs.Written.{decimal};
+ghost use Rattle.kinds.specs.Chances.{chanceStart, chanceCarry, chanceAtLeast, chanceRank, chanceMade};
+use super::Chance;
+use crate::kind::Kind;
+use refusals::kind::KindFault;
+use std::fmt;
+
+impl Chance {
+    // One chance from its parts; a number above 65,536 is refused.
+    pub fn new(number: u32) -> Result<Chance, KindFault>
+        ensures { λ r. ⌜ r ≡ chanceMade number ⌝ }
+    {
+        if number > 65536 {
+            return Err(KindFault::Chance);
+        }
+        Ok(Chance { parts: number })
+    }
+}
+
+// A larger chance is better: the chances of a path's links are multiplied, link by link, and rounded down.
+pub struct ByChance;
+
+pub impl Kind for ByChance as ChanceKind {
+    type Label = Chance;
+
+    type Grade = Chance;
+
+    ghost start = { chanceStart };
+
+    ghost carry = { chanceCarry };
+
+    ghost atLeast = { chanceAtLeast };
+
+    ghost rank = { chanceRank };
+
+    fn start() -> Chance {
+        Chance { parts: 65536 }
+    }
+
+    fn carry(label: Chance, grade: Chance) -> Chance {
+        let product = label.parts as u64 * grade.parts as u64;
+        Chance {
+            parts: (product / 65536) as u32,
+        }
+    }
+
+    fn at_least_as_good(a: Chance, b: Chance) -> bool {
+        b.parts <= a.parts
+    }
+
+    fn rank(label: Chance) -> u32 {
+        65536 - label.parts
+    }
+}
+
+pub impl fmt::Display for Chance as ChanceDisplay {
+    ghost shown = { λ x. Some (decimal (x .parts)) };
+
+    fn fmt<W: fmt::Write>(&self, f: &mut fmt::Formatter<W>) -> fmt::Result {
+        fmt::Display::fmt(&self.parts, f)
+    }
+}

@@ -1,0 +1,11 @@
+// What holds of every kind, from its laws alone.
+ghost use Rattle.std.specs.Orderings.{Decides};
+ghost use Rattle.kinds.specs.Order.{Better};
+use crate::kind::Kind;
+
+// Whether `a` is better than `b`: at least as good, and not the same.
+pub fn better<K: Kind>(a: K::Label, b: K::Label) -> bool
+    ensures { λ r. ⌜ Decides r (Better K·Kind a b) ⌝ }
+{
+    !K::at_least_as_good(b, a)
+}

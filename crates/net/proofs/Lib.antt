@@ -1,0 +1,4 @@
+pub mod Firsts
+pub mod Judging
+pub mod Tails
+pub mod Heads

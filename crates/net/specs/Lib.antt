@@ -1,0 +1,4 @@
+pub mod First
+pub mod Table
+pub mod Judged
+pub mod View

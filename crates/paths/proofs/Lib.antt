@@ -1,0 +1,5 @@
+pub mod Members
+pub mod Turned
+pub mod Growing
+pub mod Listing
+pub mod Along

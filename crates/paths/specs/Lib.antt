@@ -1,0 +1,5 @@
+pub mod Lists
+pub mod Path
+pub mod Grade
+pub mod Simple
+pub mod Answer

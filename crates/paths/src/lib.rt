@@ -1,0 +1,2 @@
+// Paths over a net: their grades under every kind, and the simple ones.
+pub mod grade;
