@@ -3,11 +3,15 @@ use mathlib.Core.Path.{_≡_, ap, subst}
 use mathlib.Core.Bool.{Bool, true, Bool-set}
 use Prim.Native.Nat.{ℕ, _≤_}
 use native.Mathlib.Bridge.{le-prop}
+use native.Mathlib.Omega.{arith}
 use lib.IntN.{ℤ, pos, negsuc}
 use lib.Signed.{leZ}
+use Rattle.std.proofs.shelf.Tests.{leb-true}
 use Rattle.kinds.specs.declared.airtime.Airtime.{Airtime}
 use Rattle.kinds.specs.declared.chance.Chance.{Chance}
 use Rattle.kinds.specs.declared.margin.Margin.{Margin}
+use Rattle.kinds.specs.Airtimes.{airtimeOf}
+use Rattle.kinds.specs.Margins.{marginOf}
 
 -- what is made of a number and a fact about it
 pub same-made : {V C : Type 0} (P : V → Type 0) (prop : (v : V) (p q : P v) → p ≡ q) (of : (v : V) → P v → C)
@@ -32,3 +36,14 @@ bounds-once z p q = λ i. (Bool-set (leZ (negsuc 127) z) true (p .0) (q .0) i, B
 pub same-margin : (x y : Margin) → x .decibels ≡ y .decibels → x ≡ y
 same-margin x y e =
     same-made Bounds bounds-once (λ z p. record { decibels = z; least = p .0; most = p .1 }) (x .decibels) (y .decibels) (x .least, x .most) (y .least, y .most) e
+
+-- a value is what is made of its number
+pub airtime-of : (x : Airtime) → airtimeOf (x .micros) ≡ x
+airtime-of x = same-airtime _ _ (omega (arith, x .fits))
+
+pub margin-of : (x : Margin) → marginOf (x .decibels) ≡ x
+margin-of x = same-margin _ _ (cut (x .decibels) (x .least) (x .most))
+  where
+    cut : (z : ℤ) → leZ (negsuc 127) z ≡ true → leZ z (pos 127) ≡ true → marginOf z .decibels ≡ z
+    cut (pos n) low high = ap pos (omega (arith, leb-true n 127 high))
+    cut (negsuc n) low high = ap negsuc (omega (arith, leb-true n 127 low))

@@ -3,3 +3,4 @@ pub mod Airtimes
 pub mod Chances
 pub mod Margins
 pub mod Order
+pub mod Shipped

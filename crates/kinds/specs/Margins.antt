@@ -1,15 +1,21 @@
 -- Margin as a kind of grade: a path has the margin of its weakest link, in decibels, and more is better.
 use mathlib.Core.Bool.{Bool, true, cond}
 use mathlib.Core.Path.{_≡_, refl}
-use Prim.Native.Nat.{ℕ, _+_, _-_}
+use Prim.Native.Nat.{ℕ, _+_, _-_, min}
+use native.Mathlib.Nat.{min-le-right}
 use lib.IntN.{ℤ, pos, negsuc}
 use lib.Signed.{leZ}
 use Rattle.std.specs.Numbers.{minZ}
-use Rattle.std.proofs.shelf.Tests.{cond-both}
+use Rattle.std.proofs.shelf.Tests.{cond-both, le-leb}
 use Rattle.kinds.specs.declared.margin.Margin.{Margin}
 
+-- so many decibels, cut at -128 and 127
+abbrev pub marginOf : ℤ → Margin
+marginOf (pos n) = record { decibels = pos (min n 127); least = refl; most = le-leb (min n 127) 127 (min-le-right n 127) }
+marginOf (negsuc n) = record { decibels = negsuc (min n 127); least = le-leb (min n 127) 127 (min-le-right n 127); most = refl }
+
 abbrev pub marginStart : Margin
-marginStart = record { decibels = pos 127; least = refl; most = refl }
+marginStart = marginOf (pos 127)
 
 -- what holds of both holds of the smaller
 pub smaller-both : (P : ℤ → Type 0) (x y : ℤ) → P x → P y → P (minZ x y)

@@ -1,27 +1,26 @@
 -- Going along a list of links: where it breaks off, and that it is a path where it does not.
-use mathlib.Core.Path.{_≡_, refl, sym, _∙_, ap, subst}
-use mathlib.Core.Bool.{Bool, true, false, cond}
+use mathlib.Core.Path.{_≡_, refl, _∙_, ap, subst}
+use mathlib.Core.Bool.{true, false}
 use mathlib.Core.List.{List, [], _∷_}
 use mathlib.Core.Logic.{inl, inr}
-use Prim.Native.Nat.{ℕ, suc, _+_, _<_, _≤_}
+use Prim.Native.Nat.{ℕ, _+_, _<_, _≤_}
 use native.Mathlib.Omega.{arith}
-use lib.Dec.{eqb, ltb}
-use native.Mathlib.Numerals.{add-one}
+use lib.Dec.{eqb}
 use lib.ListN.{length, getD, drop}
-use lib.Seq.{drop-cons}
+use Rattle.std.proofs.shelf.Lists.{drop-more, drop-all}
 use Rattle.std.proofs.shelf.Maps.{nth-read}
 use Rattle.std.specs.Iters.{folded}
 use Rattle.kinds.specs.declared.kind.Kind.{Ghosts}
 use Rattle.std.proofs.shelf.Tests.{cases-lt, cases-eq, lt-ltb, le-ltb, eq-eqb, ne-eqb}
-use Rattle.std.specs.declared.option.Option.{Option}
 use Rattle.std.specs.declared.option.Option.the-variants.{Some, None}
-use Rattle.net.specs.Table.{Table, ForwardStar, stationCount, linkCount, headAt, tailAt}
+use Rattle.net.specs.Table.{Table, ForwardStar, stationCount, linkCount, headAt, headOf, tailAt}
+use Rattle.net.proofs.Heads.{head-found, head-missing}
 use Rattle.net.proofs.Tails.{lands, tail-leaves}
 use Rattle.paths.specs.declared.grade.NotPath.{NotPath}
-use Rattle.paths.specs.declared.grade.NotPath.the-variants.{Grades, NoStation, NoLink, Parted}
+use Rattle.paths.specs.declared.grade.NotPath.the-variants.{NoLink, Parted}
 use Rattle.paths.specs.Path.{Leads, PathFrom}
 use Rattle.paths.specs.Answer.{breaks, notPath}
-use Rattle.paths.specs.Grade.{through, carriedOver}
+use Rattle.paths.specs.Grade.{through, carriedOver, pathGrade}
 
 module _ {t : Table} (star : ForwardStar t) where
   -- what breaks off nowhere is a path
@@ -53,28 +52,51 @@ module _ {t : Table} (star : ForwardStar t) where
   -- what has a reason against it is no path
   pub refused-no-path : (count a : ℕ) (p : List ℕ) (e : NotPath) → notPath t count a p ≡ Some e → count ≡ linkCount t → PathFrom t a p → ⊥
   refused-no-path count a p e told n (b, h) =
-      let f : notPath t count a p ≡ None = rw (eq-eqb count (linkCount t) n, lt-ltb a (stationCount t) (path-begins p a b h)) (path-unbroken p 0 a b h) in
+      let f : notPath t count a p ≡ None =
+      rw (eq-eqb count (linkCount t) n, lt-ltb a (stationCount t) (path-begins p a b h)) (path-unbroken p 0 a b h) in
       let z : _≡_ {A = ℕ} 0 1 = cc in omega arith
 
--- with one grade per link and a station to begin at, only the links are left to look at
-pub told-breaks : (t : Table) (count a : ℕ) (p : List ℕ) → count ≡ linkCount t → a < stationCount t → notPath t count a p ≡ breaks t 0 a p
-told-breaks t count a p n h = rw (eq-eqb count (linkCount t) n, lt-ltb a (stationCount t) h)
+  -- with one grade per link and a station to begin at, the reason is where the list breaks off
+  pub refused-broken : (count a : ℕ) (p : List ℕ) {e : NotPath} → count ≡ linkCount t → a < stationCount t → breaks t 0 a p ≡ Some e
+      → (count ≡ linkCount t → PathFrom t a p → ⊥) × (notPath t count a p ≡ Some e)
+  refused-broken count a p {e} n h broken =
+      let told : notPath t count a p ≡ Some e = rw (eq-eqb count (linkCount t) n, lt-ltb a (stationCount t) h) broken in
+      (refused-no-path count a p e told, told)
 
--- One step along the list: place i holds link l.
-module _ (t : Table) (way : List ℕ) (i a l : ℕ) (here : i < length way) (is : getD way i 0 ≡ l) where
-  rest : drop i way ≡ l ∷ drop (i + 1) way
-  rest = rw (add-one, ← is) (drop-cons way i 0 here)
+-- One step: a path from station `from` has come to station a, and the link at place i is next.
+module _ (t : Table) (from : ℕ) (way : List ℕ) (i a : ℕ) (here : i < length way) (known : breaks t 0 from way ≡ breaks t i a (drop i way)) where
+  -- that link
+  abbrev at : ℕ
+  at = getD way i 0
 
-  pub breaks-no-link : linkCount t ≤ l → breaks t i a (drop i way) ≡ Some (NoLink i)
-  breaks-no-link h = rw (rest, le-ltb l (linkCount t) h)
+  pub breaks-no-link : None ≡ headOf t at → breaks t 0 from way ≡ Some (NoLink i)
+  breaks-no-link e = known ∙ rw (drop-more way i 0 here, le-ltb at (linkCount t) (head-missing t at e))
 
-  pub breaks-parted : l < linkCount t → eqb (tailAt t l) a ≡ false → breaks t i a (drop i way) ≡ Some (Parted i)
-  breaks-parted h e = rw (rest, lt-ltb l (linkCount t) h, e)
+  pub breaks-parted : (v : ℕ) → Some v ≡ headOf t at → false ≡ eqb (tailAt t at) a → breaks t 0 from way ≡ Some (Parted i)
+  breaks-parted v e f = known ∙ rw (drop-more way i 0 here, lt-ltb at (linkCount t) (head-found t at v e .0), ← f)
 
-  pub breaks-on : l < linkCount t → eqb (tailAt t l) a ≡ true → breaks t i a (drop i way) ≡ breaks t (i + 1) (headAt t l) (drop (i + 1) way)
-  breaks-on h e = rw (rest, lt-ltb l (linkCount t) h, e)
+  pub breaks-on : (v : ℕ) → Some v ≡ headOf t at → true ≡ eqb (tailAt t at) a
+      → breaks t 0 from way ≡ breaks t (i + 1) v (drop (i + 1) way)
+  breaks-on v e f =
+      let (link, is) = head-found t at v e in
+      known ∙ rw (drop-more way i 0 here, lt-ltb at (linkCount t) link, ← f, is)
 
-  pub grade-on : {K L G : Type 0} (k : Ghosts K L G) (grades : List G) (x : L) (g : G) → l < length grades → g ≡ getD grades l g
-      → folded (through k grades) (Some x) (drop i way) ≡ folded (through k grades) (Some (k .carry x g)) (drop (i + 1) way)
-  grade-on k grades x g h e =
-      rw rest (ap (λ o. folded (through k grades) (carriedOver k x o) (drop (i + 1) way)) (nth-read grades (length grades) l g refl h e))
+-- at the end it has broken off nowhere
+pub breaks-end : (t : Table) (from : ℕ) (way : List ℕ) (i a : ℕ) → length way ≤ i
+    → breaks t 0 from way ≡ breaks t i a (drop i way) → breaks t 0 from way ≡ None
+breaks-end t from way i a done known = known ∙ rw (drop-all i way done)
+
+-- The label: x before the link at place i.
+module _ {K L G : Type 0} (k : Ghosts K L G) (grades : List G) (way : List ℕ) (i : ℕ) (x : L) where
+  -- it becomes y over that link
+  pub grade-on : (y : L) (g : G) → i < length way → getD way i 0 < length grades → g ≡ getD grades (getD way i 0) g → y ≡ k .carry x g
+      → pathGrade k grades way ≡ folded (through k grades) (Some x) (drop i way)
+      → pathGrade k grades way ≡ folded (through k grades) (Some y) (drop (i + 1) way)
+  grade-on y g here h e is known =
+      let read = nth-read grades (length grades) (getD way i 0) g refl h e in
+      known ∙ rw (drop-more way i 0 here, is) (ap (λ o. folded (through k grades) (carriedOver k x o) (drop (i + 1) way)) read)
+
+  -- at the end it is the grade
+  pub grade-end : length way ≤ i → pathGrade k grades way ≡ folded (through k grades) (Some x) (drop i way)
+      → pathGrade k grades way ≡ Some x
+  grade-end done known = known ∙ rw (drop-all i way done)

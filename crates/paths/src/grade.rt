@@ -1,14 +1,13 @@
 ghost use mathlib.Core.Path.{_≡_};
-ghost use Prim.Native.Nat.{_<_};
-ghost use lib.Dec.{eqb};
 ghost use lib.ListN.{length};
 ghost use Rattle.std.specs.Results.{Cases};
 ghost use Rattle.std.specs.declared.option.Option.the-variants.{Some};
-ghost use Rattle.net.specs.Table.{linkCount, tailAt};
+ghost use Rattle.net.specs.Table.{linkCount};
 ghost use Rattle.net.specs.View.{tableOf};
 ghost use Rattle.paths.specs.Answer.{notPath};
 ghost use Rattle.paths.specs.Grade.{pathGrade};
 ghost use Rattle.paths.specs.Path.{PathFrom};
+use super::leaves::leaves;
 use kinds::kind::Kind;
 use net::star::Net;
 
@@ -23,17 +22,6 @@ pub enum NotPath {
     NoLink(usize),
     // The link at this place does not begin where the path has come to.
     Parted(usize),
-}
-
-// Whether a link leaves this station.
-fn leaves(net: &Net, link: u16, station: u16) -> bool
-    requires { ⌜ link < linkCount (tableOf (now net)) ⌝ }
-    ensures { λ r. ⌜ r ≡ eqb (tailAt (tableOf (now (net .entry))) link) station ⌝ }
-{
-    match net.links_of(station) {
-        Some(own) => own.start <= link && link < own.end,
-        None => false,
-    }
 }
 
 // The grade of the path that begins at station `from` and goes over the links of `way` in their order.

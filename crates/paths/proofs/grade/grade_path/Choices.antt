@@ -1,17 +1,14 @@
-use Prim.Native.Nat.{_<_}
 use mathlib.Core.Path.{_≡_}
 use lib.ListN.{drop}
 use Rattle.std.specs.Iters.{folded}
 use Rattle.std.specs.declared.option.Option.the-variants.{Some}
-use Rattle.net.specs.Table.{stationCount}
 use Rattle.net.specs.View.{tableOf}
 use Rattle.paths.specs.Answer.{breaks}
 use Rattle.paths.specs.Grade.{pathGrade, through}
 use Rattle.paths.proofs.grade.grade_path.Given as given
 
--- the path has come to a station, and what is left from there decides the answer
+-- what is left from the station come to, with the label so far, decides the answer
 abbrev pub Inv-loop-i : given.InvT-loop-i
 Inv-loop-i g l =
-    (l .at < stationCount (tableOf (l .net)))
-    × (breaks (tableOf (l .net)) 0 (l .from) (l .way) ≡ breaks (tableOf (l .net)) (l .i) (l .at) (drop (l .i) (l .way)))
+    (breaks (tableOf (l .net)) 0 (l .from) (l .way) ≡ breaks (tableOf (l .net)) (l .i) (l .at) (drop (l .i) (l .way)))
     × (pathGrade (g .K·Kind) (l .grades) (l .way) ≡ folded (through (g .K·Kind) (l .grades)) (Some (l .label)) (drop (l .i) (l .way)))

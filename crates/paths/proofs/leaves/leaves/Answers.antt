@@ -1,20 +1,21 @@
-use mathlib.Core.Path.{_≡_, sym, _∙_}
+use mathlib.Core.Path.{sym, _∙_}
 use mathlib.Core.Logic.{inl, inr}
-use Prim.Native.Nat.{_+_}
 use native.Mathlib.Omega.{arith}
-use lib.Dec.{eqb}
 use Rattle.std.proofs.shelf.Tests.{cases-lt, lt-ltb, le-ltb, lt-leb, eq-eqb}
-use Rattle.net.specs.Table.{Leaves, firstLink}
+use Rattle.net.specs.Table.{Leaves}
 use Rattle.net.specs.View.{tableOf}
 use Rattle.net.proofs.Tails.{starOf, tail-is, tail-not}
-use Rattle.paths.proofs.grade.leaves.Needs as need
+use Rattle.paths.proofs.leaves.leaves.Needs as need
 
 pub returns-then-own-link : need.returns-then-own-link
 returns-then-own-link c =
     let star = starOf (c .args .net .now) in
     let e = c .in-Some .ensures tt in
     elim (cases-lt (c .args .link) (c .in-Some .own .end)) [
-      | inl m ↦ lt-ltb _ _ m ∙ sym (eq-eqb _ _ (tail-is star _ _ (record { station = omega (arith, e .0); from = omega (arith, e .1); to = omega (arith, e .2) })))
+      | inl m ↦ (
+          let w : Leaves (tableOf (c .args .net .now)) (c .args .link) (c .args .station) =
+          record { station = omega (arith, e .0); from = omega (arith, e .1); to = omega (arith, e .2) } in
+          lt-ltb _ _ m ∙ sym (eq-eqb _ _ (tail-is star _ _ w)))
       | inr m ↦ le-ltb _ _ m ∙ sym (tail-not star _ _ (c .pre) (λ w. omega (arith, w .to, e .2)))
     ]
 

@@ -1,0 +1,107 @@
+ghost use denote.Ref.{now};
+ghost use mathlib.Core.Path.{_≡_};
+ghost use mathlib.Core.List.{map};
+ghost use Prim.Native.Nat.{_≤_};
+ghost use lib.ListN.{length};
+ghost use Rattle.std.specs.declared.option.Option.the-variants.{None};
+ghost use Rattle.site.specs.Commands.{NetLine, Commanded, comment, Obeyed};
+ghost use Rattle.site.specs.Desks.{deskOf};
+use crate::answer::Answer;
+use crate::lists::read_net;
+use crate::plot::Site;
+use crate::plot::acts::NotOpened;
+use crate::trouble::Trouble;
+use crate::trouble::TroubleFromAlloc;
+use crate::verb::Verb;
+use crate::verb::verb_of;
+use refusals::net::NetFaultTold;
+use refusals::told::Fault;
+use script::words::words;
+use std::alloc::Global;
+
+// Where a script is carried out, line by line: the site that it works on, once a net was accepted.
+#[derive(Drop)]
+pub struct Desk {
+    site: Option<Site>,
+}
+
+impl Desk {
+    pub fn new() -> Desk
+        ensures { λ r. ⌜ deskOf r ≡ None ⌝ }
+    {
+        Desk { site: None }
+    }
+
+    // Opens a new site, if the lists are a net; else all stays as it was.
+    fn open(&mut self, heap: Global, words: &[&[u8]]) -> Result<Answer, Trouble>
+        requires { ⌜ 1 ≤ length (now words) ⌝ }
+        ensures { λ r. ⌜ NetLine (deskOf (now (self .entry))) (map now (now (words .entry))) r (deskOf (now (self .exit))) ⌝ }
+    {
+        let (starts, heads) = match read_net(heap, words) {
+            Ok(lists) => lists,
+            Err(trouble) => return Err(trouble),
+        };
+        match Site::open(heap, starts, heads) {
+            Ok(site) => {
+                let answer = Answer::Net(site.stations(), site.links());
+                self.site = Some(site);
+                Ok(answer)
+            }
+            Err(NotOpened::Refused(fault)) => Ok(Answer::Refused(fault.told())),
+            Err(NotOpened::Memory) => Err(Trouble::Memory),
+        }
+    }
+
+    // Carries out a command, whose words these are.
+    fn command(
+        &mut self,
+        heap: Global,
+        words: &[&[u8]],
+        verb: Option<Verb>,
+    ) -> Result<Answer, Trouble>
+        requires { ⌜ 1 ≤ length (now words) ⌝ }
+        ensures { λ r. ⌜ Commanded verb (deskOf (now (self .entry))) (map now (now (words .entry))) r (deskOf (now (self .exit))) ⌝ }
+    {
+        match verb {
+            None => Err(Trouble::Unknown),
+            Some(Verb::Net) => self.open(heap, words),
+            Some(Verb::Kind) => match &mut self.site {
+                Some(site) => site.choose(heap, words),
+                None => Err(Trouble::NoNet),
+            },
+            Some(Verb::Grades) => match &mut self.site {
+                Some(site) => site.take_grades(heap, words),
+                None => Err(Trouble::NoNet),
+            },
+            Some(Verb::Path) => match &self.site {
+                Some(site) => site.path(heap, words),
+                None => Err(Trouble::NoNet),
+            },
+        }
+    }
+
+    // Carries out one line of a script: what it answers, or nothing where it is blank or a comment.
+    pub fn obey(&mut self, heap: Global, line: &[u8]) -> Result<Option<Answer>, Trouble>
+        ensures { λ r. ⌜ Obeyed (deskOf (now (self .entry))) (now (line .entry)) r (deskOf (now (self .exit))) ⌝ }
+    {
+        let all = words(heap, line)?;
+        if all.is_empty() {
+            return Ok(None);
+        }
+        let first = all[0];
+        if is_comment(first) {
+            return Ok(None);
+        }
+        match self.command(heap, all.as_slice(), verb_of(first)) {
+            Ok(answer) => Ok(Some(answer)),
+            Err(trouble) => Err(trouble),
+        }
+    }
+}
+
+// Whether the line that begins with this word is a comment.
+fn is_comment(word: &[u8]) -> bool
+    ensures { λ r. ⌜ r ≡ comment (now (word .entry)) ⌝ }
+{
+    !word.is_empty() && word[0] == 35
+}
