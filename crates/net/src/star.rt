@@ -20,5 +20,6 @@ pub struct Net<'a> {
 }
 
 pub mod fill;
+pub mod lists;
 pub mod parts;
 pub mod tail;

@@ -11,6 +11,8 @@ use lib.Seq.{getD-set-same, getD-set-other}
 use Rattle.std.proofs.shelf.Lists.{drop-more, drop-all}
 use Rattle.std.proofs.shelf.Tests.{and-parts, and-from, lt-ltb, le-ltb, ltb-true, eq-eqb, eqb-true, not-true, not-from-false, both-ways}
 use Rattle.std.proofs.shelf.Ways.{decides-at}
+use Rattle.std.specs.Options.{Cases}
+use Rattle.std.specs.declared.option.Option.{Option}
 use Rattle.std.specs.declared.option.Option.the-variants.{Some, None}
 use Rattle.std.specs.Orderings.{Decides}
 use Rattle.net.specs.Table.{Table, ForwardStar, Leaves, stationCount, linkCount, headAt, headOf, tailAt}
@@ -110,6 +112,12 @@ onward-decides {t} star way n a room some w = (
 pub simple-first : (t : Table) (way : List ℕ) → Simple t way → getD way 0 0 < linkCount t
 simple-first t [] s = absurd (omega (arith, s .some))
 simple-first t (l ∷ p) s = s .leads .0
+
+-- so a way begins where the tail of its first link was found, and is no simple path where none was
+pub begins-at : (t : Table) (way : List ℕ) (l : ℕ) (found : Option ℕ) → 0 < length way → l ≡ getD way 0 0
+    → Cases found (linkCount t ≤ l) (λ s. Leaves t l s) → Cases found (Simple t way → ⊥) (λ s. (0 < length way) × Leaves t (getD way 0 0) s)
+begins-at t way l None some e past = λ s. omega (arith, simple-first t way s)
+begins-at t way l (Some s) some e w = (some, subst (λ x. Leaves t x s) e w)
 
 -- One step: what is left from place i on, at station a with the marks m, decides P.
 module _ {P : Type 0} (t : Table) (m : List Bool) (way : List ℕ) (i a : ℕ) (known : Decides (onward t m a (drop i way)) P) where

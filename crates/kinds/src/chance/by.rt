@@ -1,7 +1,8 @@
 ghost use mathlib.Core.Path.{_≡_};
+ghost use Prim.Native.Nat.{_≤_};
 ghost use Rattle.std.specs.declared.option.Option.the-variants.{Some};
 ghost use Rattle.std.specs.Written.{decimal};
-ghost use Rattle.kinds.specs.Chances.{chanceStart, chanceCarry, chanceAtLeast, chanceRank, chanceMade};
+ghost use Rattle.kinds.specs.Chances.{chanceStart, chanceCarry, chanceAtLeast, chanceRank, chanceRead, chanceMade};
 use super::Chance;
 use crate::kind::Kind;
 use refusals::kind::KindFault;
@@ -15,7 +16,25 @@ impl Chance {
         if number > 65536 {
             return Err(KindFault::Chance);
         }
-        Ok(Chance { parts: number })
+        Ok(chance(number))
+    }
+}
+
+// So many parts of 65,536, which are at most all.
+fn chance(parts: u32) -> Chance
+    requires { ⌜ parts ≤ 65536 ⌝ }
+    ensures { λ r. ⌜ r ≡ chanceRead parts ⌝ }
+{
+    Chance { parts }
+}
+
+// The chance that two things come about, rounded down.
+fn product(a: Chance, b: Chance) -> Chance
+    ensures { λ r. ⌜ r ≡ chanceCarry a b ⌝ }
+{
+    let parts = a.parts as u64 * b.parts as u64;
+    Chance {
+        parts: (parts / 65536) as u32,
     }
 }
 
@@ -36,14 +55,11 @@ pub impl Kind for ByChance as ChanceKind {
     ghost rank = { chanceRank };
 
     fn start() -> Chance {
-        Chance { parts: 65536 }
+        chance(65536)
     }
 
     fn carry(label: Chance, grade: Chance) -> Chance {
-        let product = label.parts as u64 * grade.parts as u64;
-        Chance {
-            parts: (product / 65536) as u32,
-        }
+        product(label, grade)
     }
 
     fn at_least_as_good(a: Chance, b: Chance) -> bool {

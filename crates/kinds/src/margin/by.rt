@@ -1,9 +1,26 @@
+ghost use mathlib.Core.Path.{_≡_};
 ghost use Rattle.std.specs.declared.option.Option.the-variants.{Some};
 ghost use Rattle.std.specs.Written.{signed};
-ghost use Rattle.kinds.specs.Margins.{marginStart, marginCarry, marginAtLeast, marginRank};
+ghost use Rattle.kinds.specs.Margins.{marginOf, marginStart, marginCarry, marginAtLeast, marginRank};
 use super::Margin;
 use crate::kind::Kind;
 use std::fmt;
+
+// So many decibels.
+fn margin(decibels: i8) -> Margin
+    ensures { λ r. ⌜ r ≡ marginOf decibels ⌝ }
+{
+    Margin { decibels }
+}
+
+// The smaller of two margins.
+fn smaller(a: Margin, b: Margin) -> Margin
+    ensures { λ r. ⌜ r ≡ marginCarry a b ⌝ }
+{
+    Margin {
+        decibels: a.decibels.min(b.decibels),
+    }
+}
 
 // A larger margin is better, and a path has that of its weakest link.
 pub struct ByMargin;
@@ -22,13 +39,11 @@ pub impl Kind for ByMargin as MarginKind {
     ghost rank = { marginRank };
 
     fn start() -> Margin {
-        Margin { decibels: 127 }
+        margin(127)
     }
 
     fn carry(label: Margin, grade: Margin) -> Margin {
-        Margin {
-            decibels: label.decibels.min(grade.decibels),
-        }
+        smaller(label, grade)
     }
 
     fn at_least_as_good(a: Margin, b: Margin) -> bool {

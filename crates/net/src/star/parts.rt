@@ -33,20 +33,6 @@ impl<'a> Net<'a> {
         self.heads.len() as u16
     }
 
-    // The list of starts.
-    pub fn starts(&self) -> &'a [u16]
-        ensures { λ r. ⌜ r ≡ now (self .entry) .starts ⌝ }
-    {
-        self.starts
-    }
-
-    // The list of heads.
-    pub fn heads(&self) -> &'a [u16]
-        ensures { λ r. ⌜ r ≡ now (self .entry) .heads ⌝ }
-    {
-        self.heads
-    }
-
     // The station to which a link leads, or none where there is no such link.
     pub fn head(&self, link: u16) -> Option<u16>
         ensures { λ r. ⌜ r ≡ headOf (tableOf (now (self .entry))) link ⌝ }

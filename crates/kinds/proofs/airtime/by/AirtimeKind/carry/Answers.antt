@@ -1,6 +1,0 @@
-use borrow.Author.Needs.{needs}
-use Rattle.kinds.proofs.Same.{same-airtime}
-use Rattle.kinds.proofs.airtime.by.AirtimeKind.carry.Needs as need
-
-pub returns : need.returns
-returns c = same-airtime _ _ (search needs)

@@ -1,6 +1,0 @@
-use borrow.Author.Needs.{needs}
-use Rattle.kinds.proofs.Same.{same-margin}
-use Rattle.kinds.proofs.margin.by.MarginKind.carry.Needs as need
-
-pub returns : need.returns
-returns c = same-margin _ _ (search needs)
