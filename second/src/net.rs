@@ -20,8 +20,9 @@ impl Net {
                 layer: "net",
             })
         };
-        let (Some(&first), Some(&last)) = (starts.first(), starts.last()) else {
-            return refuse(1, 0);
+        let (first, last) = match (starts.first(), starts.last()) {
+            (Some(&first), Some(&last)) => (first, last),
+            _ => return refuse(1, 0),
         };
         let stations = starts.len() - 1;
         if !(1..=MOST_STATIONS).contains(&stations) {
@@ -105,8 +106,9 @@ mod tests {
 
     #[test]
     fn tails_pass_over_stations_without_links() {
-        let Ok(net) = Net::new(vec![0, 0, 2, 2, 3, 3], vec![4, 1, 0]) else {
-            panic!("a lawful net");
+        let net = match Net::new(vec![0, 0, 2, 2, 3, 3], vec![4, 1, 0]) {
+            Ok(net) => net,
+            Err(_) => panic!("a lawful net"),
         };
         assert_eq!((net.stations(), net.links()), (5, 3));
         assert_eq!(net.ends(0), Some((1, 4)));

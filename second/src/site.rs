@@ -57,7 +57,7 @@ impl Site {
 
 /// Grade 0 for every link.
 fn zeros(kind: Kind, links: usize) -> Result<Vec<i64>, Why> {
-    script::list(std::iter::repeat_n(kind.read(0), links))
+    script::list(std::iter::repeat(kind.read(0)).take(links))
 }
 
 enum Command {

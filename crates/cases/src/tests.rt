@@ -1,14 +1,17 @@
 // The worked cases on the code itself, and the refusals of a net with their places.
 use super::worked_cases;
 use kinds::airtime::Airtime;
+use kinds::airtime::by::AirtimeDisplay;
 use kinds::airtime::by::AirtimeKind;
 use kinds::airtime::by::ByAirtime;
 use kinds::chance::Chance;
 use kinds::chance::by::ByChance;
+use kinds::chance::by::ChanceDisplay;
 use kinds::chance::by::ChanceKind;
 use kinds::kind::Kind;
 use kinds::margin::Margin;
 use kinds::margin::by::ByMargin;
+use kinds::margin::by::MarginDisplay;
 use kinds::margin::by::MarginKind;
 use net::star::Net;
 use paths::grade::grade_path;
@@ -83,4 +86,16 @@ fn four_roofs() -> Result<(), Fail> {
         Ok(label) => check_eq(label.micros(), 4),
         Err(_) => Err(Fail::new("no path")),
     }
+}
+
+#[test]
+fn labels_written(rt: LibcRuntime) -> Result<(), Fail> {
+    let heap = rt.alloc();
+    let (time, parts, least) = (
+        Airtime::new(4294967295),
+        Chance::read(65536),
+        Margin::new(-128),
+    );
+    let text = format!(heap, "{time} {parts} {least}")?;
+    check(text.as_str() == "4294967295 65536 -128")
 }

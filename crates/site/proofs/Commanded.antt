@@ -39,33 +39,35 @@ no-comment [] h = refl
 no-comment (b ∷ bs) h = absurd (omega arith)
 
 -- the first of some words, behind a reference
-pub first-word : (words : List (RefT (List ℕ))) (x : RefT (List ℕ)) → 0 < length words → x ≡ getD words 0 x → getD (map now words) 0 [] ≡ now x
-first-word [] x h e = absurd (omega arith)
-first-word (w ∷ ws) x h e = ap now (sym e)
+first-word : (words : List (RefT (List ℕ))) (d : RefT (List ℕ)) → now d ≡ [] → getD (map now words) 0 [] ≡ now (getD words 0 d)
+first-word words d z = ap (getD (map now words) 0) (sym z) ∙ List·getD-map now words 0 d
 
 -- A line, by its words.
 module _ (o : Option Model) where
-  pub obeys-nothing : (ws : List (List ℕ)) → length ws ≡ 0 → Obeys o ws (Ok None) o
-  obeys-nothing [] h = (refl, refl)
-  obeys-nothing (w ∷ ws) h = absurd (omega arith)
+  nothing : (ws : List (List ℕ)) → length ws ≡ 0 → Obeys o ws (Ok None) o
+  nothing [] h = (refl, refl)
+  nothing (w ∷ ws) h = absurd (omega arith)
 
-  pub obeys-comment : (ws : List (List ℕ)) → 0 < length ws → comment (getD ws 0 []) ≡ true → Obeys o ws (Ok None) o
-  obeys-comment [] h e = absurd (omega arith)
-  obeys-comment (w ∷ ws) h e = rw e (refl, refl)
+  passed-over : (ws : List (List ℕ)) → 0 < length ws → comment (getD ws 0 []) ≡ true → Obeys o ws (Ok None) o
+  passed-over [] h e = absurd (omega arith)
+  passed-over (w ∷ ws) h e = rw e (refl, refl)
 
-  pub obeys-command : (ws : List (List ℕ)) (a : Result Answer Trouble) (p : Option Model) → 0 < length ws → comment (getD ws 0 []) ≡ false
+  carried-out : (ws : List (List ℕ)) (a : Result Answer Trouble) (p : Option Model) → 0 < length ws → comment (getD ws 0 []) ≡ false
       → Commanded (verbOf (getD ws 0 [])) o ws a p → Obeys o ws (asLine a) p
-  obeys-command [] a p h e k = absurd (omega arith)
-  obeys-command (w ∷ ws) a p h e k = rw e (a, refl, k)
+  carried-out [] a p h e k = absurd (omega arith)
+  carried-out (w ∷ ws) a p h e k = rw e (a, refl, k)
 
   -- the same of words behind references, as the code holds them
-  pub obeyed : (words given : List (RefT (List ℕ))) (x : RefT (List ℕ)) (ws : List (List ℕ)) (v : Option Verb) (a : Result Answer Trouble) (p : Option Model)
-      → 0 < length words → x ≡ getD words 0 x → map now words ≡ ws → given ≡ words → comment (now x) ≡ false → v ≡ verbOf (now x)
-      → Commanded v o (map now given) a p → Obeys o ws (asLine a) p
-  obeyed words given x ws v a p h e is same other verb k =
-      let first = first-word words x h e in
-      let c : Commanded (verbOf (getD (map now words) 0 [])) o (map now words) a p =
-      subst (λ (u : Option Verb). Commanded u o (map now words) a p) (verb ∙ ap verbOf (sym first))
-      (subst (λ (ls : List (RefT (List ℕ))). Commanded v o (map now ls) a p) same k) in
-      subst (λ (ls : List (List ℕ)). Obeys o ls (asLine a) p) is
-      (obeys-command (map now words) a p (omega (arith, length-map words now)) (ap comment first ∙ other) c)
+  module _ (words : List (RefT (List ℕ))) where
+    pub obeys-nothing : length words ≡ 0 → Obeys o (map now words) (Ok None) o
+    obeys-nothing h = nothing (map now words) (length-map words now ∙ h)
+
+    module _ (d : RefT (List ℕ)) (z : now d ≡ []) (h : 0 < length words) where
+      pub obeys-comment : comment (now (getD words 0 d)) ≡ true → Obeys o (map now words) (Ok None) o
+      obeys-comment e = passed-over (map now words) (omega (arith, length-map words now)) (ap comment (first-word words d z) ∙ e)
+
+      pub obeys-command : (v : Option Verb) (a : Result Answer Trouble) (p : Option Model) → comment (now (getD words 0 d)) ≡ false
+          → v ≡ verbOf (now (getD words 0 d)) → Commanded v o (map now words) a p → Obeys o (map now words) (asLine a) p
+      obeys-command v a p other is k =
+          carried-out (map now words) a p (omega (arith, length-map words now)) (ap comment (first-word words d z) ∙ other)
+          (subst (λ (u : Option Verb). Commanded u o (map now words) a p) (is ∙ ap verbOf (sym (first-word words d z))) k)

@@ -4,7 +4,7 @@ ghost use mathlib.Core.List.{map};
 ghost use Prim.Native.Nat.{_≤_};
 ghost use lib.ListN.{length};
 ghost use Rattle.std.specs.declared.option.Option.the-variants.{None};
-ghost use Rattle.site.specs.Commands.{NetLine, Commanded, comment, Obeyed};
+ghost use Rattle.site.specs.Commands.{NetLine, Commanded, comment, Obeys, Obeyed};
 ghost use Rattle.site.specs.Desks.{deskOf};
 use crate::answer::Answer;
 use crate::lists::read_net;
@@ -80,22 +80,28 @@ impl Desk {
         }
     }
 
+    // Carries out a line, whose words these are; a line without a word and a comment have no answer.
+    fn follow(&mut self, heap: Global, words: &[&[u8]]) -> Result<Option<Answer>, Trouble>
+        ensures { λ r. ⌜ Obeys (deskOf (now (self .entry))) (map now (now (words .entry))) r (deskOf (now (self .exit))) ⌝ }
+    {
+        if words.is_empty() {
+            return Ok(None);
+        }
+        if is_comment(words[0]) {
+            return Ok(None);
+        }
+        match self.command(heap, words, verb_of(words[0])) {
+            Ok(answer) => Ok(Some(answer)),
+            Err(trouble) => Err(trouble),
+        }
+    }
+
     // Carries out one line of a script: what it answers, or nothing where it is blank or a comment.
     pub fn obey(&mut self, heap: Global, line: &[u8]) -> Result<Option<Answer>, Trouble>
         ensures { λ r. ⌜ Obeyed (deskOf (now (self .entry))) (now (line .entry)) r (deskOf (now (self .exit))) ⌝ }
     {
         let all = words(heap, line)?;
-        if all.is_empty() {
-            return Ok(None);
-        }
-        let first = all[0];
-        if is_comment(first) {
-            return Ok(None);
-        }
-        match self.command(heap, all.as_slice(), verb_of(first)) {
-            Ok(answer) => Ok(Some(answer)),
-            Err(trouble) => Err(trouble),
-        }
+        self.follow(heap, all.as_slice())
     }
 }
 
