@@ -1,7 +1,7 @@
 -- Values with an invariant are the same where their numbers are: an invariant has one proof at most.
 use mathlib.Core.Path.{_≡_, ap, subst}
-use mathlib.Core.Bool.{Bool, true, Bool-set}
-use Prim.Native.Nat.{ℕ, _≤_}
+use mathlib.Core.Bool.{true, Bool-set}
+use Prim.Native.Nat.{_≤_}
 use native.Mathlib.Bridge.{le-prop}
 use native.Mathlib.Omega.{arith}
 use lib.IntN.{ℤ, pos, negsuc}

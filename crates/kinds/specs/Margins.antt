@@ -1,5 +1,5 @@
 -- Margin as a kind of grade: a path has the margin of its weakest link, in decibels, and more is better.
-use mathlib.Core.Bool.{Bool, true, cond}
+use mathlib.Core.Bool.{Bool, true}
 use mathlib.Core.Path.{_≡_, refl}
 use Prim.Native.Nat.{ℕ, _+_, _-_, min}
 use native.Mathlib.Nat.{min-le-right}

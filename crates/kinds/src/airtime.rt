@@ -1,3 +1,4 @@
+// Airtimes.
 ghost use mathlib.Core.Path.{_≡_};
 ghost use Prim.Native.Nat.{_≤_};
 

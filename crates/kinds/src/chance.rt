@@ -1,5 +1,5 @@
+// Chances.
 ghost use mathlib.Core.Path.{_≡_};
-ghost use mathlib.Core.Bool.{cond};
 ghost use Prim.Native.Nat.{_≤_, min};
 
 // How likely a reading comes through, in parts of 65,536. No larger chance can exist.

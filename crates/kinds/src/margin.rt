@@ -1,3 +1,4 @@
+// Margins.
 ghost use mathlib.Core.Path.{_≡_};
 ghost use mathlib.Core.Bool.{true};
 ghost use lib.IntN.{pos, negsuc};

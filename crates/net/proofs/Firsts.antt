@@ -1,11 +1,10 @@
 -- When `firstBelow` answers what, and what its answer says.
-use Prim.Native.Nat.{ℕ, zero, suc, _<_, _≤_}
-use mathlib.Core.Path.{_≡_, refl, subst}
-use mathlib.Core.Bool.{Bool, true, false, cond}
+use Prim.Native.Nat.{ℕ, zero, suc, _<_}
+use mathlib.Core.Path.{_≡_, refl}
+use mathlib.Core.Bool.{Bool, true, false}
 use mathlib.Core.Logic.{_⊎_, inl, inr}
 use native.Mathlib.Omega.{arith}
 use Rattle.std.proofs.shelf.Tests.{cases-lt, cases-bool}
-use Rattle.std.specs.declared.option.Option.{Option}
 use Rattle.std.specs.declared.option.Option.the-variants.{Some, None}
 use Rattle.net.specs.First.{firstBelow}
 
@@ -54,15 +53,4 @@ none-says p n e =
     elim (first-tells p n) [
       | inl (h, _) ↦ h
       | inr (k, l, t, h, d) ↦ let z : _≡_ {A = ℕ} 0 1 = cc in absurd (omega arith)
-    ]
-
--- the answer is k: k passes, and none before it
-pub first-says : (p : ℕ → Bool) (n k : ℕ) → firstBelow p n ≡ Some k
-    → (k < n) × (p k ≡ true) × ((j : ℕ) → j < k → p j ≡ false)
-first-says p n k e =
-    elim (first-tells p n) [
-      | inl (h, d) ↦ let z : _≡_ {A = ℕ} 0 1 = cc in absurd (omega arith)
-      | inr (i, l, t, h, d) ↦
-          let s : i ≡ k = cc in
-          subst (λ (x : ℕ). (x < n) × (p x ≡ true) × ((j : ℕ) → j < x → p j ≡ false)) s (l, t, h)
     ]

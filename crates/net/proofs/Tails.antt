@@ -9,7 +9,6 @@ use native.Mathlib.Numerals.{add-one}
 use lib.ListN.{length, getD}
 use lib.Dec.{ltb, eqb}
 use Rattle.std.proofs.shelf.Tests.{cases-lt, lt-ltb, le-ltb, ltb-true, ltb-false, ne-eqb}
-use Rattle.net.specs.First.{firstBelow}
 use Rattle.net.specs.Table.{Table, Rising, ForwardStar, Leaves, stationCount, linkCount, firstLink, headAt, tailAt}
 use Rattle.net.specs.View.{tableOf}
 use Rattle.net.specs.declared.star.Net.{Net}
@@ -36,14 +35,6 @@ module _ {t : Table} (star : ForwardStar t) where
   tail-is l s w =
       rw (first-is (λ k. ltb l (firstLink t (k + 1))) (stationCount t) s (w .station) (lt-ltb _ _ (w .to))
       (λ j h. le-ltb l (firstLink t (j + 1)) (omega (arith, w .from, rises (t .starts) (star .rising) (j + 1) s (omega arith) (omega (arith, w .station))))))
-
-  -- no start is past the links
-  pub starts-within : (k : ℕ) → k < length (t .starts) → firstLink t k ≤ linkCount t
-  starts-within k h = omega (arith, rises (t .starts) (star .rising) k (length (t .starts) - 1) (omega arith) (omega (arith, star .some)), star .last)
-
-  -- what leaves a station is a link
-  pub leaves-link : {l s : ℕ} → Leaves t l s → l < linkCount t
-  leaves-link {l} {s} w = omega (arith, starts-within (s + 1) (omega (arith, w .station)), w .to)
 
   -- every link leaves its tail
   pub tail-leaves : (l : ℕ) → l < linkCount t → Leaves t l (tailAt t l)

@@ -1,13 +1,12 @@
 -- The table of links of a net, as a forward star: what its two lists hold, and what they mean.
 use Prim.Native.Nat.{ℕ, _+_, _-_, _<_, _≤_}
 use mathlib.Core.Path.{_≡_}
-use mathlib.Core.Bool.{Bool, cond}
+use mathlib.Core.Bool.{cond}
 use mathlib.Core.List.{List}
 use lib.ListN.{length, getD}
 use lib.Dec.{ltb}
 use Rattle.std.specs.declared.option.Option.{Option}
 use Rattle.std.specs.declared.option.Option.the-variants.{Some, None}
-use Rattle.std.specs.Iters.{counting}
 use Rattle.std.specs.Options.{valueOr}
 use Rattle.net.specs.First.{firstBelow}
 
@@ -28,10 +27,6 @@ linkCount t = length (t .heads)
 -- the first link of station s; those of s end before the first of s + 1
 abbrev pub firstLink : Table → ℕ → ℕ
 firstLink t s = getD (t .starts) s 0
-
--- the links of station s, in their order
-abbrev pub linksOut : Table → ℕ → List ℕ
-linksOut t s = counting (firstLink t s) (firstLink t (s + 1) - firstLink t s)
 
 -- the station to which link l leads
 abbrev pub headAt : Table → ℕ → ℕ

@@ -1,3 +1,4 @@
+// The grade of a path, under every kind.
 ghost use mathlib.Core.Path.{_≡_};
 ghost use lib.ListN.{length};
 ghost use Rattle.std.specs.Results.{Cases};

@@ -1,3 +1,4 @@
+// Whether a link leaves a station.
 ghost use mathlib.Core.Path.{_≡_};
 ghost use Prim.Native.Nat.{_<_};
 ghost use lib.Dec.{eqb};

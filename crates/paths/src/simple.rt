@@ -1,3 +1,4 @@
+// Simple paths.
 ghost use Prim.Native.Nat.{_<_};
 ghost use lib.ListN.{length, getD};
 ghost use Rattle.std.specs.Options.{Cases};

@@ -1,12 +1,8 @@
 // The planner's program: reads a site script from a file or from standard input, and answers each command by one line.
 use site::desk::Desk;
-use site::text::answer_text;
-use site::text::error_text;
-use std::alloc::Global;
 use std::env;
 use std::error::AnyError;
 use std::fs;
-use std::io;
 use std::io::BufRead;
 use std::io::BufReader;
 
@@ -24,20 +20,6 @@ refused <number> place <place> layer <layer>. A line that cannot be carried out 
 and the script goes on.
 ";
 
-// What the desk answers to one line, or nothing.
-fn answer(
-    desk: &mut Desk,
-    heap: Global,
-    number: u64,
-    line: &[u8],
-) -> Result<Option<String>, AnyError> {
-    match desk.obey(heap, line) {
-        Ok(None) => Ok(None),
-        Ok(Some(found)) => Ok(Some(answer_text(heap, found)?)),
-        Err(trouble) => Ok(Some(error_text(heap, number, trouble)?)),
-    }
-}
-
 // Answers a script line by line, so that each answer is out before the next line is waited for.
 fn serve<R: BufRead>(rt: &LibcRuntime, reader: &mut R) -> Result<(), AnyError> {
     let heap = rt.alloc();
@@ -51,7 +33,7 @@ fn serve<R: BufRead>(rt: &LibcRuntime, reader: &mut R) -> Result<(), AnyError> {
         if line.last().copied() == Some(b'\n') {
             let _ = line.pop();
         }
-        if let Some(text) = answer(&mut desk, heap, number, line.as_slice())? {
+        if let Some(text) = desk.reply(heap, number, line.as_slice())? {
             println!(rt, "{text}")?;
         }
     }

@@ -1,3 +1,4 @@
+// Refusals of a book.
 ghost use mathlib.Core.Path.{_≡_};
 ghost use Rattle.refusals.specs.declared.book.BookFault.the-variants.{InList};
 ghost use Rattle.refusals.specs.Tells.{bookTells};

@@ -1,3 +1,4 @@
+// Refusals of the check.
 ghost use Rattle.refusals.specs.Tells.{checkTells};
 use crate::told::Fault;
 use crate::told::Layer;

@@ -1,3 +1,4 @@
+// Refusals of a kind of grade.
 ghost use Rattle.refusals.specs.Tells.{kindTells};
 use crate::told::Fault;
 use crate::told::Layer;

@@ -1,3 +1,4 @@
+// Refusals of a candidate list.
 ghost use Rattle.refusals.specs.Tells.{listTells};
 use crate::told::Fault;
 use crate::told::Layer;

@@ -1,3 +1,4 @@
+// Refusals of a net.
 ghost use Rattle.refusals.specs.Tells.{netTells};
 use crate::told::Fault;
 use crate::told::Layer;

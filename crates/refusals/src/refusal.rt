@@ -1,3 +1,4 @@
+// Refusals of all layers in one.
 ghost use mathlib.Core.Path.{_≡_};
 ghost use Rattle.refusals.specs.declared.refusal.Refusal.the-variants.{OfNet, OfKind, OfList, OfBook, OfCheck};
 ghost use Rattle.refusals.specs.Tells.{refusalTells};

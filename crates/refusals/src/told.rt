@@ -1,3 +1,4 @@
+// How a refusal is told: its number, its place and its layer.
 ghost use mathlib.Core.Path.{_≡_};
 ghost use Rattle.refusals.specs.declared.told.Told.{Told};
 

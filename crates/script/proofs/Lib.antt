@@ -1,3 +1,2 @@
-pub mod Rest
 pub mod Spelling
 pub mod Parting

@@ -1,14 +1,13 @@
 -- Parting a line at its blanks gives its words.
-use mathlib.Core.Path.{_≡_, refl, sym, _∙_, ap}
-use mathlib.Core.Bool.{Bool, true, false}
-use mathlib.Core.List.{List, [], _∷_, _++_, append-assoc, append-nil}
+use mathlib.Core.Path.{_≡_, refl, _∙_, ap}
+use mathlib.Core.Bool.{true, false}
+use mathlib.Core.List.{List, [], _∷_, _++_}
 use Prim.Native.Nat.{ℕ, _+_, _-_, _<_, _≤_}
 use native.Mathlib.Omega.{arith}
 use lib.ListN.{length, getD, take, drop, length-drop}
 use lib.Seq.{getD-drop}
-use Rattle.std.proofs.shelf.Lists.{take-more}
+use Rattle.std.proofs.shelf.Lists.{take-more, drop-more, drop-all}
 use Rattle.script.specs.Words.{blank, ended, wordsFrom}
-use Rattle.script.proofs.Rest.{rest-more, rest-none}
 
 -- the bytes of the word under way
 abbrev pub under : List ℕ → ℕ → ℕ → List ℕ
@@ -37,13 +36,13 @@ module _ (line : List ℕ) (from i : ℕ) (h : from ≤ i) where
       → wordsFrom (under line from i) (drop i line) ≡ ended (under line from i) [] ++ wordsFrom (under line (i + 1) (i + 1)) (drop (i + 1) line)
   parted-blank l e =
       let z : i + 1 - (i + 1) ≡ 0 = omega arith in
-      rw (rest-more line i 0 l, e, z) (ended-before (under line from i) (wordsFrom [] (drop (i + 1) line)))
+      rw (drop-more line i 0 l, e, z) (ended-before (under line from i) (wordsFrom [] (drop (i + 1) line)))
 
   -- any other byte goes on with it
   pub parted-other : i < length line → blank (getD line i 0) ≡ false
       → wordsFrom (under line from i) (drop i line) ≡ wordsFrom (under line from (i + 1)) (drop (i + 1) line)
-  parted-other l e = rw (rest-more line i 0 l, e, under-more line from i h l)
+  parted-other l e = rw (drop-more line i 0 l, e, under-more line from i h l)
 
   -- and so does the end of the line
   pub parted-end : i ≡ length line → wordsFrom (under line from i) (drop i line) ≡ ended (under line from i) []
-  parted-end e = ap (wordsFrom (under line from i)) (rest-none line i e)
+  parted-end e = ap (wordsFrom (under line from i)) (drop-all i line (omega arith))

@@ -1,10 +1,11 @@
+// The numbers that words spell.
 ghost use mathlib.Core.Path.{_≡_};
 ghost use Rattle.script.specs.Numbers.{digit, numberOf, decibelsOf};
 
 fn is_digit(byte: u8) -> bool
     ensures { λ r. ⌜ r ≡ digit byte ⌝ }
 {
-    byte >= 48 && byte <= 57
+    byte >= b'0' && byte <= b'9'
 }
 
 // The number that a word spells in digits, where it is at most `most`.
@@ -20,7 +21,7 @@ pub fn number(word: &[u8], most: u32) -> Option<u32>
         if !is_digit(*byte) {
             return None;
         }
-        value = value * 10 + (*byte - 48) as u64;
+        value = value * 10 + (*byte - b'0') as u64;
         if value > most {
             return None;
         }
@@ -32,7 +33,7 @@ pub fn number(word: &[u8], most: u32) -> Option<u32>
 pub fn decibels(word: &[u8]) -> Option<i8>
     ensures { λ r. ⌜ r ≡ decibelsOf (now (word .entry)) ⌝ }
 {
-    if word.is_empty() || word[0] != 45 {
+    if word.is_empty() || word[0] != b'-' {
         return match number(word, 127) {
             Some(n) => Some(n as i8),
             None => None,

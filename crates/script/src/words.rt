@@ -1,3 +1,4 @@
+// The words of a line.
 ghost use denote.Ref.{now};
 ghost use mathlib.Core.Path.{_≡_};
 ghost use mathlib.Core.List.{map, [], _++_};
@@ -12,7 +13,7 @@ use std::alloc::Global;
 fn is_blank(byte: u8) -> bool
     ensures { λ r. ⌜ r ≡ blank byte ⌝ }
 {
-    byte == 9 || byte == 13 || byte == 32
+    byte == b'\t' || byte == b'\r' || byte == b' '
 }
 
 // Adds a word, unless it is empty.

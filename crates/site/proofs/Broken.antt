@@ -1,16 +1,13 @@
 -- Where a proposed way breaks off: at one of its places, and not because of its first link's tail.
-use mathlib.Core.Path.{_≡_, refl, sym, _∙_, subst}
-use mathlib.Core.Bool.{true, false, cond}
+use mathlib.Core.Path.{_≡_, refl, subst}
 use mathlib.Core.List.{List, [], _∷_}
 use mathlib.Core.Logic.{_⊎_, inl, inr}
 use Prim.Native.Nat.{ℕ, _+_, _<_, _≤_}
 use native.Mathlib.Omega.{arith}
-use lib.Dec.{eqb, ltb}
 use lib.ListN.{length}
 use Rattle.std.proofs.shelf.Tests.{cases-lt, cases-eq, lt-ltb, le-ltb, eq-eqb, ne-eqb}
-use Rattle.std.specs.declared.option.Option.{Option}
-use Rattle.std.specs.declared.option.Option.the-variants.{Some, None}
-use Rattle.net.specs.Table.{Table, ForwardStar, stationCount, linkCount, headAt, tailAt, tailOf}
+use Rattle.std.specs.declared.option.Option.the-variants.{Some}
+use Rattle.net.specs.Table.{Table, ForwardStar, stationCount, linkCount, headAt, tailAt}
 use Rattle.net.proofs.Tails.{tail-leaves}
 use Rattle.paths.specs.declared.grade.NotPath.{NotPath}
 use Rattle.paths.specs.declared.grade.NotPath.the-variants.{Grades, NoStation, NoLink, Parted}

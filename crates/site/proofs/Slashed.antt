@@ -1,8 +1,8 @@
 -- Where the `/` of a `net` line stands, and what the line then reads as.
-use mathlib.Core.Path.{_≡_, refl, sym, ap, _∙_}
-use mathlib.Core.Bool.{true, false, cond}
+use mathlib.Core.Path.{_≡_, sym, ap, _∙_}
+use mathlib.Core.Bool.{true, false}
 use mathlib.Core.List.{List, [], _∷_, map}
-use Prim.Native.Nat.{ℕ, _+_, _<_, _≤_}
+use Prim.Native.Nat.{ℕ, _+_, _<_}
 use native.Mathlib.Omega.{arith}
 use denote.Ref.{RefT, now}
 use lib.Chars.{codes}
@@ -11,7 +11,7 @@ use lib.ListN.{length, getD, take, drop, length-map, List·getD-map}
 use Rattle.std.proofs.shelf.Tests.{lt-ltb, le-ltb}
 use Rattle.std.specs.shelf.Lists.{leading}
 use Rattle.std.specs.shelf.Text.{sameBytes}
-use Rattle.script.proofs.Rest.{rest-more, rest-none}
+use Rattle.std.proofs.shelf.Lists.{drop-more, drop-all}
 use Rattle.std.specs.declared.result.Result.{Result}
 use Rattle.std.specs.declared.result.Result.the-variants.{Ok, Err}
 use lib.Seq.{take-all}
@@ -29,7 +29,7 @@ module _ (words : List (RefT (List ℕ))) (i : ℕ) where
 
   onward-more : (d : RefT (List ℕ)) → now d ≡ [] → i < length words → onward ≡ now (getD words i d) ∷ drop (i + 1) (map now words)
   onward-more d z h =
-      rest-more (map now words) i [] (omega (arith, length-map words now))
+      drop-more (map now words) i [] (omega (arith, length-map words now))
       ∙ ap (λ w. w ∷ drop (i + 1) (map now words)) (ap (getD (map now words) i) (sym z) ∙ List·getD-map now words i d)
 
   pub slash-here : (d : RefT (List ℕ)) → now d ≡ [] → i < length words → sameBytes (now (getD words i d)) (codes "/") ≡ true → leading noSlash onward ≡ 0
@@ -40,7 +40,7 @@ module _ (words : List (RefT (List ℕ))) (i : ℕ) where
   slash-later d z h e = ap (leading noSlash) (onward-more d z h) ∙ rw e
 
   pub slash-none : i ≡ length words → leading noSlash onward ≡ 0
-  slash-none h = ap (leading noSlash) (rest-none (map now words) i (h ∙ sym (length-map words now)))
+  slash-none h = ap (leading noSlash) (drop-all i (map now words) (omega (arith, length-map words now)))
 
 module _ (words : List (RefT (List ℕ))) (at : ℕ) (starts : List ℕ) (is : at ≡ slashAt (map now words))
     (read : readAll shortRead Bounds.Short 2 (drop 1 (take at (map now words))) ≡ Ok starts) where

@@ -10,7 +10,7 @@ use Rattle.std.specs.declared.option.Option.{Option}
 use Rattle.std.specs.declared.option.Option.the-variants.{Some, None}
 use Rattle.std.specs.declared.result.Result.{Result}
 use Rattle.std.specs.declared.result.Result.the-variants.{Ok, Err}
-use Rattle.script.proofs.Rest.{rest-more, rest-none}
+use Rattle.std.proofs.shelf.Lists.{drop-more, drop-all}
 use Rattle.site.specs.declared.trouble.Bounds.{Bounds}
 use Rattle.site.specs.declared.trouble.Trouble.{Trouble}
 use Rattle.site.specs.declared.trouble.Trouble.the-variants.{NotNumber}
@@ -29,15 +29,15 @@ module _ {T : Type 0} (reads : List ℕ → Option T) (bounds : Bounds) (ws : Li
   -- the word at i spells x
   pub read-one : (x : T) → i < length ws → Some x ≡ reads (getD ws i [])
       → after xs (readAll reads bounds (i + 1) (drop i ws)) ≡ after (xs ++ x ∷ []) (readAll reads bounds (i + 1 + 1) (drop (i + 1) ws))
-  read-one x h e = rw (rest-more ws i [] h, ← e) (after-one xs x (NotNumber (i + 1) bounds) (readAll reads bounds (i + 1 + 1) (drop (i + 1) ws)))
+  read-one x h e = rw (drop-more ws i [] h, ← e) (after-one xs x (NotNumber (i + 1) bounds) (readAll reads bounds (i + 1 + 1) (drop (i + 1) ws)))
 
   -- it spells nothing
   pub read-none : i < length ws → None ≡ reads (getD ws i []) → after xs (readAll reads bounds (i + 1) (drop i ws)) ≡ Err (NotNumber (i + 1) bounds)
-  read-none h e = rw (rest-more ws i [] h, ← e)
+  read-none h e = rw (drop-more ws i [] h, ← e)
 
   -- no word is left
   pub read-end : i ≡ length ws → after xs (readAll reads bounds (i + 1) (drop i ws)) ≡ Ok xs
-  read-end h = rw (rest-none ws i h) (ap Ok (append-nil xs))
+  read-end h = rw (drop-all i ws (omega arith)) (ap Ok (append-nil xs))
 
 -- a word behind a reference
 pub word-at : (refs : List (RefT (List ℕ))) (d : RefT (List ℕ)) (to i : ℕ) → i < to → now (getD refs i d) ≡ getD (take to (map now refs)) i (now d)

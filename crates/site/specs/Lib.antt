@@ -8,3 +8,4 @@ pub mod Nets
 pub mod Commands
 pub mod Desks
 pub mod Texts
+pub mod Replies

@@ -1,6 +1,5 @@
 -- Opening a site, and what a site holds.
 use mathlib.Core.Path.{_≡_}
-use lib.ListN.{length}
 use Rattle.std.specs.Of.Vec.{vec-items}
 use Rattle.std.specs.declared.option.Option.the-variants.{Some, None}
 use Rattle.std.specs.declared.result.Result.{Result}

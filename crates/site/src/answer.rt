@@ -1,3 +1,4 @@
+// What commands answer.
 use crate::verb::KindName;
 use kinds::airtime::Airtime;
 use kinds::chance::Chance;

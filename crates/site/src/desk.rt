@@ -1,3 +1,4 @@
+// Carrying out a script line by line.
 ghost use denote.Ref.{now};
 ghost use mathlib.Core.Path.{_≡_};
 ghost use mathlib.Core.List.{map};
@@ -6,10 +7,13 @@ ghost use lib.ListN.{length};
 ghost use Rattle.std.specs.declared.option.Option.the-variants.{None};
 ghost use Rattle.site.specs.Commands.{NetLine, Commanded, comment, Obeys, Obeyed};
 ghost use Rattle.site.specs.Desks.{deskOf};
+ghost use Rattle.site.specs.Replies.{Replied};
 use crate::answer::Answer;
 use crate::lists::read_net;
 use crate::plot::Site;
 use crate::plot::acts::NotOpened;
+use crate::text::answer_text;
+use crate::text::error_text;
 use crate::trouble::Trouble;
 use crate::trouble::TroubleFromAlloc;
 use crate::verb::Verb;
@@ -17,6 +21,7 @@ use crate::verb::verb_of;
 use refusals::net::NetFaultTold;
 use refusals::told::Fault;
 use script::words::words;
+use std::alloc::AllocError;
 use std::alloc::Global;
 
 // Where a script is carried out, line by line: the site that it works on, once a net was accepted.
@@ -103,11 +108,33 @@ impl Desk {
         let all = words(heap, line)?;
         self.follow(heap, all.as_slice())
     }
+
+    // The text that answers one line of a script, which has this number, or nothing where the line has no answer.
+    pub fn reply(
+        &mut self,
+        heap: Global,
+        number: u64,
+        line: &[u8],
+    ) -> Result<Option<String>, AllocError>
+        ensures { λ r. ⌜ Replied (deskOf (now (self .entry))) number (now (line .entry)) r (deskOf (now (self .exit))) ⌝ }
+    {
+        match self.obey(heap, line) {
+            Ok(None) => Ok(None),
+            Ok(Some(answer)) => match answer_text(heap, answer) {
+                Ok(text) => Ok(Some(text)),
+                Err(error) => Err(error),
+            },
+            Err(trouble) => match error_text(heap, number, trouble) {
+                Ok(text) => Ok(Some(text)),
+                Err(error) => Err(error),
+            },
+        }
+    }
 }
 
 // Whether the line that begins with this word is a comment.
 fn is_comment(word: &[u8]) -> bool
     ensures { λ r. ⌜ r ≡ comment (now (word .entry)) ⌝ }
 {
-    !word.is_empty() && word[0] == 35
+    !word.is_empty() && word[0] == b'#'
 }

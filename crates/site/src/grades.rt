@@ -1,3 +1,4 @@
+// The grades of a site, in one of the three kinds.
 ghost use mathlib.Core.Path.{_≡_};
 ghost use denote.Ref.{now};
 ghost use mathlib.Core.List.{map};

@@ -1,3 +1,4 @@
+// The two lists of a `net` line.
 ghost use denote.Ref.{now};
 ghost use mathlib.Core.Path.{_≡_};
 ghost use mathlib.Core.List.{map};

@@ -1,3 +1,4 @@
+// An open site and its invariant.
 ghost use mathlib.Core.Path.{_≡_};
 ghost use mathlib.Core.Bool.{false};
 ghost use Rattle.std.specs.Of.Vec.{vec-items};

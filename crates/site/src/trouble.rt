@@ -1,3 +1,4 @@
+// Why a line is not carried out.
 ghost use mathlib.Core.Path.{_≡_};
 ghost use Rattle.site.specs.declared.trouble.Trouble.the-variants.{Memory};
 use crate::way::WayFault;
@@ -30,7 +31,7 @@ pub enum Trouble {
     NoSlash,
     // What should name a kind does not.
     NoKind,
-    // What is proposed is no way.
+    // The proposed links have no grade as a path.
     NotPath(WayFault),
     // There is not enough memory.
     Memory,

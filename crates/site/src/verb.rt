@@ -1,3 +1,4 @@
+// Commands and kinds by their words.
 ghost use mathlib.Core.Path.{_≡_};
 ghost use Rattle.site.specs.Verbs.{verbOf, kindNamed};
 use script::words::reads_as;

@@ -1,3 +1,4 @@
+// The grade of a way that an installer proposes.
 ghost use mathlib.Core.Path.{_≡_};
 ghost use Rattle.std.specs.declared.option.Option.the-variants.{Some};
 ghost use Rattle.paths.specs.Answer.{notPath};

@@ -1,3 +1,4 @@
+// Airtime as a kind of grade.
 ghost use mathlib.Core.Path.{_≡_};
 ghost use Prim.Native.Nat.{_+_};
 ghost use Rattle.std.specs.declared.option.Option.the-variants.{Some};

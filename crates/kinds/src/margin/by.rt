@@ -1,3 +1,4 @@
+// Margin as a kind of grade.
 ghost use mathlib.Core.Path.{_≡_};
 ghost use Rattle.std.specs.declared.option.Option.the-variants.{Some};
 ghost use Rattle.std.specs.Written.{signed};

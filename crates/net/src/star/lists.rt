@@ -1,3 +1,4 @@
+// The two lists that a net is a view of.
 ghost use mathlib.Core.Path.{_≡_};
 use super::Net;
 

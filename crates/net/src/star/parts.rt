@@ -1,3 +1,4 @@
+// What a net has: stations, links, heads, and the links of a station.
 ghost use mathlib.Core.Path.{_≡_};
 ghost use mathlib.Core.List.{[], _∷_};
 ghost use Prim.Native.Nat.{_+_, _≤_};

@@ -1,3 +1,4 @@
+// Opening a site.
 ghost use mathlib.Core.Path.{_≡_};
 ghost use Rattle.std.specs.Of.Vec.{vec-items};
 ghost use Rattle.net.specs.Table.{table, stationCount, linkCount};

@@ -1,4 +1,4 @@
-use mathlib.Core.Path.{_≡_, refl, sym}
+use mathlib.Core.Path.{refl, sym}
 use native.Mathlib.Omega.{arith}
 use Rattle.site.proofs.Slashed.{slash-here, slash-later, slash-none}
 use Rattle.site.proofs.lists.slash.Needs as need

@@ -1,6 +1,6 @@
-use mathlib.Core.Path.{_≡_, refl, sym, ap, _∙_}
+use mathlib.Core.Path.{refl, sym, ap, _∙_}
 use mathlib.Core.Logic.{inr}
-use Rattle.site.specs.Model.{Model, zeros}
+use Rattle.site.specs.Model.{zeros}
 use Rattle.site.specs.Plots.{modelOf}
 use Rattle.site.proofs.Commanded.{came, kind-words, kind-word}
 use Rattle.site.proofs.plot.Site.choose.Needs as need
