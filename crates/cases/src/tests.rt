@@ -16,12 +16,21 @@ use kinds::margin::by::MarginKind;
 use net::star::Net;
 use paths::grade::grade_path;
 use paths::simple::is_simple;
+use refusals::book::BookFault;
+use refusals::book::BookFromList;
 use refusals::kind::KindFaultTold;
+use refusals::list::ListFault;
 use refusals::net::NetFault;
 use refusals::net::NetFaultDebug;
 use refusals::net::NetFaultPartialEq;
 use refusals::net::NetFaultTold;
+use refusals::refusal::Refusal;
+use refusals::refusal::RefusalFromBook;
+use refusals::refusal::RefusalTold;
 use refusals::told::Fault;
+use refusals::told::Layer;
+use refusals::told::LayerDebug;
+use refusals::told::LayerPartialEq;
 use std::test::*;
 
 #[test]
@@ -98,4 +107,30 @@ fn labels_written(rt: LibcRuntime) -> Result<(), Fail> {
     );
     let text = format!(heap, "{time} {parts} {least}")?;
     check(text.as_str() == "4294967295 65536 -128")
+}
+
+fn enters() -> Result<(), ListFault> {
+    Err(ListFault::Station)
+}
+
+fn in_book() -> Result<(), BookFault> {
+    enters()?;
+    Ok(())
+}
+
+fn anywhere() -> Result<(), Refusal> {
+    in_book()?;
+    Ok(())
+}
+
+#[test]
+fn refusals_wrapped() -> Result<(), Fail> {
+    match anywhere() {
+        Ok(()) => Err(Fail::new("not refused")),
+        Err(refusal) => {
+            check_eq(refusal.number(), 14)?;
+            check_eq(refusal.place(), 0)?;
+            check_eq(refusal.layer(), Layer::List)
+        }
+    }
 }

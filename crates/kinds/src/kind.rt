@@ -31,7 +31,7 @@ pub trait Kind {
     fn at_least_as_good(a: Self::Label, b: Self::Label) -> bool
         ensures { λ r. ⌜ r ≡ atLeast a b ⌝ };
 
-    // A label at least as good as another has no higher rank.
+    // A number that follows the order: the better of two labels does not rank higher.
     fn rank(label: Self::Label) -> u32
         ensures { λ r. ⌜ r ≡ rank label ⌝ };
 }

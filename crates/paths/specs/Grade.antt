@@ -18,6 +18,6 @@ module _ {K L G : Type 0} (k : Ghosts K L G) where
   through grades None l = None
   through grades (Some x) l = carriedOver x (nth grades l)
 
-  -- a path's grade: the start label carried over its links, first link first
+  -- the grade of a path: what becomes of the start label along its links
   abbrev pub pathGrade : List G → List ℕ → Option L
   pathGrade grades p = folded (through grades) (Some (k .start)) p

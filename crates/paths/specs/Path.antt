@@ -1,4 +1,4 @@
--- Paths: lists of links in which each tail is the head before it.
+-- Paths: each link begins where the one before ends.
 use mathlib.Core.Path.{_≡_}
 use mathlib.Core.List.{List, [], _∷_}
 use Prim.Native.Nat.{ℕ, _<_}

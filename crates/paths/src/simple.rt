@@ -10,6 +10,7 @@ use super::leaves::leaves;
 use net::star::Net;
 
 // Where the way begins if it is a path with a link: at the tail of its first one.
+// That the listing of simple paths is right follows from the net's invariant alone, and is stated here once for both answers of `is_simple`.
 fn beginning(net: &Net, way: &[u16]) -> Option<u16>
     ensures begins { λ r. ⌜ Cases r (Simple (tableOf (now (net .entry))) (now (way .entry)) → ⊥) (λ a. (0 < length (now (way .entry))) × Leaves (tableOf (now (net .entry))) (getD (now (way .entry)) 0 0) a) ⌝ }
     ensures listed { λ r. ⌜ Listed (tableOf (now (net .entry))) ⌝ }

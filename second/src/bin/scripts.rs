@@ -978,8 +978,21 @@ impl Script {
         self.text("net 0 1 2 / 1 0\ngrades 40000 45000\npath");
         self.text(&" 0 1".repeat(50_000));
         self.text("\npath 0 1 0 1\npath 0 1 0 0 1\n");
+        self.text("# A word and a break far beyond place 65,535.\ngrades");
+        self.many(&[(70_000, 1)]);
+        self.text(" x\npath 0 1\ngrades 1 2\npath");
+        self.text(&" 0 1".repeat(35_000));
+        self.text(" 1\npath");
+        self.text(&" 0 1".repeat(35_000));
+        self.text(" 2\n");
+        self.text("# A path of a million characters.\npath");
+        self.text(&" 0 1".repeat(250_000));
+        self.text("\n");
     }
 }
+
+/// The example of the README.
+const ESTATE: &str = include_str!("../../../examples/estate.site");
 
 fn main() -> ExitCode {
     let mut script = Script {
@@ -988,6 +1001,7 @@ fn main() -> ExitCode {
     };
     script.text(OPENING);
     script.text("\n");
+    script.text(ESTATE);
     for line in ODD {
         script.bytes.extend_from_slice(line);
     }
