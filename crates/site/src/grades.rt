@@ -40,7 +40,7 @@ fn repeated<T: Copy>(heap: Global, x: T, count: usize) -> Result<Vec<T>, AllocEr
 }
 
 // Grade 0 for each of so many links.
-pub fn zero_grades(heap: Global, kind: KindName, count: usize) -> Result<Grades, AllocError>
+pub(crate) fn zero_grades(heap: Global, kind: KindName, count: usize) -> Result<Grades, AllocError>
     ensures { λ r. ⌜ made r (λ g. gradesIn g ≡ zeros kind count) ⌝ }
 {
     match kind {
@@ -72,7 +72,7 @@ pub(crate) fn read_grades(heap: Global, like: &Grades, words: &[&[u8]]) -> Resul
 }
 
 impl Grades {
-    pub fn count(&self) -> usize
+    pub(crate) fn count(&self) -> usize
         ensures { λ r. ⌜ r ≡ gradeCount (gradesIn (now (self .entry))) ⌝ }
     {
         match self {

@@ -59,7 +59,7 @@ fn label_text(heap: Global, label: Label) -> Result<String, AllocError>
 }
 
 // The line that answers a command.
-pub fn answer_text(heap: Global, answer: Answer) -> Result<String, AllocError>
+pub(crate) fn answer_text(heap: Global, answer: Answer) -> Result<String, AllocError>
     ensures { λ r. ⌜ made r (λ s. string-bytes s ≡ answerText answer) ⌝ }
 {
     match answer {
@@ -116,7 +116,7 @@ fn trouble_text(heap: Global, trouble: Trouble) -> Result<String, AllocError>
 }
 
 // The line that tells why the line of this number was not carried out.
-pub fn error_text(heap: Global, line: u64, trouble: Trouble) -> Result<String, AllocError>
+pub(crate) fn error_text(heap: Global, line: u64, trouble: Trouble) -> Result<String, AllocError>
     ensures { λ r. ⌜ made r (λ s. string-bytes s ≡ errorText line trouble) ⌝ }
 {
     let why = trouble_text(heap, trouble)?;

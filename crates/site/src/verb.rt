@@ -20,7 +20,7 @@ pub enum KindName {
     Margin,
 }
 
-pub fn verb_of(word: &[u8]) -> Option<Verb>
+pub(crate) fn verb_of(word: &[u8]) -> Option<Verb>
     ensures { λ r. ⌜ r ≡ verbOf (now (word .entry)) ⌝ }
 {
     if reads_as(word, "net") {
@@ -36,7 +36,7 @@ pub fn verb_of(word: &[u8]) -> Option<Verb>
     }
 }
 
-pub fn kind_named(word: &[u8]) -> Option<KindName>
+pub(crate) fn kind_named(word: &[u8]) -> Option<KindName>
     ensures { λ r. ⌜ r ≡ kindNamed (now (word .entry)) ⌝ }
 {
     if reads_as(word, "airtime") {

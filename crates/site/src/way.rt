@@ -47,7 +47,11 @@ fn fault_of(net: &Net, count: usize, way: &[u16], found: NotPath) -> WayFault
 }
 
 // The grade of a way that an installer proposes.
-pub fn propose<K: Kind>(net: &Net, grades: &[K::Grade], way: &[u16]) -> Result<K::Label, WayFault>
+pub(crate) fn propose<K: Kind>(
+    net: &Net,
+    grades: &[K::Grade],
+    way: &[u16],
+) -> Result<K::Label, WayFault>
     ensures { λ r. ⌜ Proposed K·Kind (tableOf (now (net .entry))) (now (grades .entry)) (now (way .entry)) r ⌝ }
 {
     match grade_path::<K>(net, grades, beginning_of(net, way), way) {

@@ -41,7 +41,7 @@ pub impl From<AllocError> for NotOpened as NotOpenedFromAlloc {
 
 impl Site {
     // A site over the net of two lists, where every link has airtime 0.
-    pub fn open(heap: Global, starts: Vec<u16>, heads: Vec<u16>) -> Result<Site, NotOpened>
+    pub(crate) fn open(heap: Global, starts: Vec<u16>, heads: Vec<u16>) -> Result<Site, NotOpened>
         ensures { λ r. ⌜ Opens (table (vec-items starts) (vec-items heads)) r ⌝ }
     {
         let mut net = Net::single();
@@ -54,13 +54,13 @@ impl Site {
         })
     }
 
-    pub fn stations(&self) -> u16
+    pub(crate) fn stations(&self) -> u16
         ensures { λ r. ⌜ r ≡ stationCount (modelOf (now (self .entry)) .links) ⌝ }
     {
         (self.starts.len() - 1) as u16
     }
 
-    pub fn links(&self) -> u16
+    pub(crate) fn links(&self) -> u16
         ensures { λ r. ⌜ r ≡ linkCount (modelOf (now (self .entry)) .links) ⌝ }
     {
         self.heads.len() as u16
