@@ -43,9 +43,16 @@ pub fn words(heap: Global, line: &[u8]) -> Result<Vec<&[u8]>, AllocError>
     Ok(out)
 }
 
+// Whether two runs of bytes are the same.
+fn same(a: &[u8], b: &[u8]) -> bool
+    ensures { λ r. ⌜ r ≡ sameBytes (now (a .entry)) (now (b .entry)) ⌝ }
+{
+    a == b
+}
+
 // Whether a word reads so.
 pub fn reads_as(word: &[u8], name: &str) -> bool
     ensures { λ r. ⌜ r ≡ sameBytes (now (word .entry)) (now (name .entry)) ⌝ }
 {
-    word == name.as_bytes()
+    same(word, name.as_bytes())
 }

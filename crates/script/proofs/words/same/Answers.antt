@@ -1,6 +1,6 @@
 use borrow.Author.Needs.{needs}
 use Rattle.std.proofs.shelf.Equals.{matches-decides, sameBytes-decides}
-use Rattle.script.proofs.words.reads_as.Needs as need
+use Rattle.script.proofs.words.same.Needs as need
 
 pub returns : need.returns
 returns c =
