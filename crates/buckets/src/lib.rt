@@ -1,4 +1,6 @@
 // The bucket candidate list: stations in buckets by the rank of their labels, picked bucket by bucket.
+#![tactic(auto)]
+
 pub mod bucket;
 mod chains;
 mod shelves;

@@ -1,4 +1,6 @@
 // The worked cases: one table, computed from the definitions that the contracts of all layers use.
+#![tactic(auto)]
+
 ghost use Rattle.std.specs.Prelude.{◌≡◌, length};
 ghost use Rattle.cases.specs.Worked.{worked, AllStand};
 

@@ -1,4 +1,6 @@
 // The planner's program: reads a site script from a file or from standard input, and answers each command by one line.
+#![tactic(auto)]
+
 use anyhow::anyhow;
 use site::desk::Desk;
 use std::io::{BufRead, BufReader};

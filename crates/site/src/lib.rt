@@ -1,4 +1,6 @@
 // A site at work: the commands of a site script carried out on a net and its grades.
+#![tactic(auto)]
+
 pub mod answer;
 pub mod desk;
 pub mod grades;

@@ -24,7 +24,7 @@ loop-byte-preserved c =
       omega arith,
       omega arith,
       c.loop-byte.invariant.2 ∙ ap (λ bs. number_from c.args.most c.loop-byte.value bs) (drop_more w i 0 (omega arith))
-          ∙ from-digit c.args.most c.loop-byte.value (get_or w i 0) (drop (i + 1) w) (sym c.if-not-is-digit.ensures),
+          ∙ from-digit c.args.most c.loop-byte.value (get_or w i 0) (drop (i + 1) w) (sym c.if-not-is_digit.ensures),
     )
 
 pub returns : goal.returns
