@@ -3,12 +3,12 @@ use Rattle.std.proofs.lemmas.List.{drop_more, drop_all}
 use Rattle.script.proofs.Spelling.{number_from, from-no-digit, from-large, from-digit, from_all}
 use Rattle.script.proofs.number.number.Goals as goal
 
-pub returns-then-not-is-digit : goal.returns-then-not-is-digit
-returns-then-not-is-digit c =
+pub returns-then-not-is_digit : goal.returns-then-not-is_digit
+returns-then-not-is_digit c =
     let w = c.args.word.now in
     let i = c.loop-byte.byte-index in
     sym (c.loop-byte.invariant.2 ∙ ap (λ bs. number_from c.args.most c.loop-byte.value bs) (drop_more w i 0 (omega arith))
-    ∙ from-no-digit c.args.most c.loop-byte.value (get_or w i 0) (drop (i + 1) w) (sym c.if-not-is-digit.ensures))
+    ∙ from-no-digit c.args.most c.loop-byte.value (get_or w i 0) (drop (i + 1) w) (sym c.if-not-is_digit.ensures))
 
 pub returns-then-value-most : goal.returns-then-value-most
 returns-then-value-most c =

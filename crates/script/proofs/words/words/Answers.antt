@@ -14,13 +14,13 @@ loop-i-preserved c =
       | then-is_blank+in_ok-keep w ↦
           let left = words_from (under line (i + 1) (i + 1)) (drop (i + 1) line) in
           let e = c.loop-i.invariant.1
-          ∙ ap (λ ws. had ++ ws) (parted-blank line from i (omega arith) (omega arith) (sym w.if-is-blank.ensures))
+          ∙ ap (λ ws. had ++ ws) (parted-blank line from i (omega arith) (omega arith) (sym w.if-is_blank.ensures))
           ∙ sym (append_assoc had (ended (under line from i) []) left)
-          ∙ ap (λ ws. ws ++ left) (sym w.in-ok-keep.ensures) in
+          ∙ ap (λ ws. ws ++ left) (sym w.in_ok-keep.ensures) in
           simp (w.out-is, w.from-is) (omega arith, e)
       | else-is_blank w ↦
           let e = c.loop-i.invariant.1
-          ∙ ap (λ ws. had ++ ws) (parted-other line from i (omega arith) (omega arith) (sym w.if-is-blank.ensures)) in
+          ∙ ap (λ ws. had ++ ws) (parted-other line from i (omega arith) (omega arith) (sym w.if-is_blank.ensures)) in
           simp (w.out-is, w.from-is) (omega arith, e)
     ]
 

@@ -4,12 +4,12 @@ use Rattle.net.specs.Judged.{net_fault, judged}
 use Rattle.net.proofs.Judging.{unrefused-star, judged-ok, judged-star}
 use Rattle.net.proofs.star.Net.fill.Goals as goal
 
-pub invariant-of-self : goal.invariant-of-self
-invariant-of-self c =
-    let s = unrefused-star (table c.args.starts.now c.args.heads.now) (judged-ok _ _ c.in-ok-tested.ensures) in
-    (s.some, (s.few, (s.light, (s.first, (s.rising, (s.last, (s.within, tt)))))))
+pub invariant_of-self : goal.invariant_of-self
+invariant_of-self c =
+    let s = unrefused-star (table c.args.starts.now c.args.heads.now) (judged-ok _ _ c.in_ok-tested.ensures) in
+    record { some = s.some; few = s.few; light = s.light; first = s.first; rising = s.rising; last = s.last; within = s.within }
 
-pub returns-in-err-tested : goal.returns-in-err-tested
-returns-in-err-tested c =
-    let t : c.from-residual.result ≡ judged (net_fault (table c.args.starts.now c.args.heads.now)) = search rules in
+pub returns-in_err-tested : goal.returns-in_err-tested
+returns-in_err-tested c =
+    let t : c.from_residual.result ≡ judged (net_fault (table c.args.starts.now c.args.heads.now)) = search rules in
     record { told = t; lawful = judged-star _ _ t; view = search rules }
