@@ -18,11 +18,11 @@ returns-then-from-stations g c =
     rw (eq-eqb count (link_count t) (omega arith), le-ltb c.args.from (station_count t) (omega arith)) in
     record { path = refused-no-path (star_of c.args.net.now) _ _ _ _ told; told = told }
 
-pub returns-in-default : goal.returns-in-default
-returns-in-default g c =
+pub returns-in_default : goal.returns-in_default
+returns-in_default g c =
     let l = c.loop-i in
     let way = c.args.way.now in
-    let broken = breaks-no-link (table_of c.args.net.now) c.args.from way l.i l.at (omega arith) l.invariant.0 c.in-default.ensures in
+    let broken = breaks-no-link (table_of c.args.net.now) c.args.from way l.i l.at (omega arith) l.invariant.0 c.in_default.ensures in
     let r = refused-broken (star_of c.args.net.now) (length c.args.grades.now) c.args.from way (omega arith) (omega arith) broken in
     record { path = r.0; told = r.1 }
 

@@ -5,8 +5,8 @@ use Rattle.paths.proofs.Listing.{listing}
 use Rattle.paths.proofs.Marks.{begins-at}
 use Rattle.paths.proofs.simple.beginning.Goals as goal
 
-pub returns-in-default : goal.returns-in-default
-returns-in-default c = record { begins = λ s. omega (arith, s.some, c.in-default.ensures.item.3); listed = listing (star_of c.args.net.now) }
+pub returns-in_default : goal.returns-in_default
+returns-in_default c = record { begins = λ s. omega (arith, s.some, c.in_default.ensures.item.3); listed = listing (star_of c.args.net.now) }
 
 pub returns : goal.returns
 returns c =

@@ -10,10 +10,10 @@ loop-link-init c =
     let star = star_of c.args.net.now in
     onward-decides star c.args.way.now 1024 c.args.from (omega (arith, star.few)) c.requires.0 c.requires.1
 
-pub returns-in-default : goal.returns-in-default
-returns-in-default c =
+pub returns-in_default : goal.returns-in_default
+returns-in_default c =
     let l = c.loop-link in
-    stop-no-link (table_of c.args.net.now) l.met c.args.way.now l.link-index l.at l.invariant (omega arith) c.in-default.ensures
+    stop-no-link (table_of c.args.net.now) l.met c.args.way.now l.link-index l.at l.invariant (omega arith) c.in_default.ensures
 
 pub returns-then-not-leaves : goal.returns-then-not-leaves
 returns-then-not-leaves c =
