@@ -4,4 +4,4 @@ use Rattle.site.proofs.grades.repeated.Goals as goal
 
 pub loop-i-preserved : goal.loop-i-preserved
 loop-i-preserved g c =
-    c.in-ok-push.ensures.items ∙ ap (λ xs. xs ++ c.args.x ∷ []) c.loop-i.invariant ∙ replicate_more c.loop-i.-i c.args.x
+    c.in_ok-push.ensures.items ∙ ap (λ xs. xs ++ c.args.x ∷ []) c.loop-i.invariant ∙ replicate_more c.loop-i._i c.args.x

@@ -8,4 +8,4 @@ returns g c =
     let k = g.T.Readable in
     let words = c.args.words.now in
     let e : take (length words) (map (λ x. x.now) words) ≡ map (λ x. x.now) words = take_all _ _ (omega (arith, length-map words (λ x. x.now))) in
-    subst (λ (ws : List (List ℕ)). Got vec_items (read_all k.reads k.bounds 2 (drop 1 ws)) c.read-all.result) e c.read-all.ensures
+    subst (λ (ws : List (List ℕ)). Got vec_items (read_all k.reads k.bounds 2 (drop 1 ws)) c.read_all.result) e c.read_all.ensures

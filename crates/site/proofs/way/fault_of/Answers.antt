@@ -15,8 +15,8 @@ unreachable-requires c = told-no-station (star_of c.args.net.now) c.args.count c
 missing : (c : In-NoLink) → c.in-NoLink.i < length c.args.way.now
 missing c = (told-no-link (star_of c.args.net.now) c.args.count c.args.way.now c.in-NoLink.i (c.requires ∙ ap Some c.in-NoLink.is)).2
 
-pub offset-bounds-way-i : goal.offset-bounds-way-i
-offset-bounds-way-i c = let h = missing (goal.at.offset-bounds-way-i c).In-NoLink in search rules
+pub offset_bounds-way-i : goal.offset_bounds-way-i
+offset_bounds-way-i c = let h = missing (goal.at.offset_bounds-way-i c).In-NoLink in search rules
 
 pub bounds-way-i : goal.bounds-way-i
 bounds-way-i c = missing (goal.at.bounds-way-i c).In-NoLink
@@ -26,17 +26,17 @@ apart : (c : In-Parted) → (c.args.count ≡ link_count (table_of c.args.net.no
     × (1 ≤ c.in-Parted.i) × (c.in-Parted.i < length c.args.way.now)
 apart c = told-parted (star_of c.args.net.now) c.args.count c.args.way.now c.in-Parted.i (c.requires ∙ ap Some c.in-Parted.is)
 
-pub offset-bounds-way-i-in-Parted : goal.offset-bounds-way-i-in-Parted
-offset-bounds-way-i-in-Parted c = let h = (apart (goal.at.offset-bounds-way-i-in-Parted c).In-Parted).3 in search rules
+pub offset_bounds-way-i-in-Parted : goal.offset_bounds-way-i-in-Parted
+offset_bounds-way-i-in-Parted c = let h = (apart (goal.at.offset_bounds-way-i-in-Parted c).In-Parted).3 in search rules
 
 pub bounds-way-i-in-Parted : goal.bounds-way-i-in-Parted
 bounds-way-i-in-Parted c = (apart (goal.at.bounds-way-i-in-Parted c).In-Parted).3
 
-pub overflow-sub-result : goal.overflow-sub-result
-overflow-sub-result c = (apart (goal.at.overflow-sub-result c).In-Parted).2
+pub overflow_sub-result : goal.overflow_sub-result
+overflow_sub-result c = (apart (goal.at.overflow_sub-result c).In-Parted).2
 
-pub offset-bounds-way-i-in-Parted-2 : goal.offset-bounds-way-i-in-Parted-2
-offset-bounds-way-i-in-Parted-2 c = let h = (apart (goal.at.offset-bounds-way-i-in-Parted-2 c).In-Parted).3 in search rules
+pub offset_bounds-way-i-in-Parted-2 : goal.offset_bounds-way-i-in-Parted-2
+offset_bounds-way-i-in-Parted-2 c = let h = (apart (goal.at.offset_bounds-way-i-in-Parted-2 c).In-Parted).3 in search rules
 
 pub bounds-way-i-in-Parted-2 : goal.bounds-way-i-in-Parted-2
 bounds-way-i-in-Parted-2 c = omega (arith, (apart (goal.at.bounds-way-i-in-Parted-2 c).In-Parted).3)
