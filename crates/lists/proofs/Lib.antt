@@ -1,5 +1,2 @@
 pub mod Rings
 pub mod Queues
-pub mod Partings
-pub mod Bests
-pub mod Thresholds

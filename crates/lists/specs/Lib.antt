@@ -11,3 +11,6 @@ pub mod Lines
 pub mod StationsLemmas
 pub mod Counts
 pub mod Orders
+pub mod Partings
+pub mod Bests
+pub mod ThresholdsLemmas

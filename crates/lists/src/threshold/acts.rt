@@ -7,6 +7,9 @@ ghost use Rattle.lists.specs.Order.{waits_by, emptied_by, entered_by, picked_by}
 ghost use Rattle.lists.specs.Thresholds.{queues_of};
 ghost use Rattle.lists.specs.Queues.{line_of};
 ghost use Rattle.lists.specs.Stations.{holds, Apart};
+ghost use Rattle.kinds.specs.declared.kind.Kind.{Ghosts};
+ghost use Rattle.lists.specs.Orders.{lawful-by};
+ghost use Rattle.lists.specs.ThresholdsLemmas.{Sound, threshold-laws};
 ghost use Rattle.lists.specs.Thresholds.{passes, better_of, best_label, refilled, no_queues, threshold};
 
 use super::Threshold;
@@ -131,6 +134,10 @@ impl<K: Kind> CandidateList<K> for Threshold<K::Label, K::Grade> {
     ghost entered = { entered_by queues_of (threshold K.Kind) };
 
     ghost picked = { picked_by queues_of (threshold K.Kind) };
+
+    ghost lawful = { let k : Ghosts K K.Label K.Grade = record { start = K.start; carry = K.carry; at_least = K.at_least; rank = K.rank } in
+        lawful-by queues_of (threshold k) (Sound k) (threshold-laws k K.lawful)
+        (λ s. record { first-once = s.first.once; second-once = s.second.once; separate = s.apart }) };
 
     fn empty(&mut self) {
         self.first.clear();

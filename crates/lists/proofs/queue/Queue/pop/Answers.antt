@@ -6,11 +6,11 @@ use Rattle.lists.proofs.queue.Queue.pop.Goals as goal
 pub bounds-self-station : goal.bounds-self-station
 bounds-self-station c = pop-below c.args.self.now (omega (arith, c.if-self-eq0.false))
 
-pub invariant-of-self : goal.invariant-of-self
-invariant-of-self c =
+pub invariant_of-self : goal.invariant_of-self
+invariant_of-self c =
     let q = c.args.self.now in
     let some : 0 < q.len = omega (arith, c.if-self-eq0.false) in
-    ((q.fits.0, length-set _ _ _ ∙ q.fits.1, omega arith, omega arith), (pop-once q some, (pop-marks q some, tt)))
+    record { fits = (q.fits.0, length-set _ _ _ ∙ q.fits.1, omega arith, omega arith); once = pop-once q some; marks = pop-marks q some }
 
 pub returns : goal.returns
 returns c =

@@ -2,7 +2,7 @@ use Rattle.std.proofs.Common.{◌≡◌, ◌+◌, ◌<◌, length, drop, Some, s
 use Rattle.std.proofs.lemmas.List.{at_drop_all}
 use Rattle.lists.specs.Queues.{line_of}
 use Rattle.lists.specs.Thresholds.{best_on}
-use Rattle.lists.proofs.Bests.{best-stops, best-more}
+use Rattle.lists.specs.Bests.{best-stops, best-more}
 use Rattle.lists.proofs.threshold.acts.best_label.Goals as goal
 
 pub returns-in-None : goal.returns-in-None
@@ -17,7 +17,7 @@ loop-i-preserved g c =
     let line = line_of c.args.queue.now in
     let i = c.loop-i.i in
     let within : i < length line = omega (arith, c.loop-i-test.true, c.len-i-end.ensures.many) in
-    ap (λ b. best_on g.K.Kind ls (Some b) (drop (i + 1) line)) c.better-of.ensures
+    ap (λ b. best_on g.K.Kind ls (Some b) (drop (i + 1) line)) c.better_of.ensures
     ∙ sym (best-more g.K.Kind ls c.loop-i.best line i c.at.result within c.at.ensures c.in-Some.a (sym c.handed.ensures ∙ c.in-Some.is)) ∙ c.loop-i.invariant
 
 pub returns : goal.returns

@@ -5,15 +5,15 @@ use Rattle.std.proofs.lemmas.List.{take_all, drop_all}
 use Rattle.lists.specs.Queues.{line_of}
 use Rattle.lists.specs.Stations.{holds}
 use Rattle.lists.specs.Thresholds.{passes}
-use Rattle.lists.proofs.Partings.{next-top, part-over, part_stays, out-of-moved, out-of-rest}
+use Rattle.lists.specs.Partings.{next-top, part-over, part_stays, out-of-moved, out-of-rest}
 use Rattle.lists.proofs.threshold.acts.part.Goals as goal
-use Rattle.lists.proofs.threshold.acts.part.Goals.{in-Some+then-passing, in-Some+else-passing, in-default}
+use Rattle.lists.proofs.threshold.acts.part.Goals.{in-Some+then-passing, in-Some+else-passing, in_default}
 
-pub push-bottom-requires : goal.push-bottom-requires
-push-bottom-requires g c =
+pub push_bottom-requires : goal.push_bottom-requires
+push_bottom-requires g c =
     let p : ℕ → Bool = λ x. passes g.K.Kind c.args.limit (slice_get c.args.labels.now x) in
     let line = line_of c.args.second.now in
-    let i = c.loop-i.-i in
+    let i = c.loop-i._i in
     let within : i < length line = omega (arith, c.loop-i-test.true, c.len-count.ensures.many) in
     let out = out-of-moved line i within p (λ x. not (p x)) (λ x. refl) (line_of c.loop-i.second) c.loop-i.invariant.1 c.in-Some.station c.in-Some.ensures.answer c.args.second.now.once in
     (out.0, ap (λ l. holds l c.in-Some.station) c.loop-i.invariant.0 ∙ out.1)
@@ -22,7 +22,7 @@ pub loop-i-preserved : goal.loop-i-preserved
 loop-i-preserved g c =
     let p : ℕ → Bool = λ x. passes g.K.Kind c.args.limit (slice_get c.args.labels.now x) in
     let line = line_of c.args.second.now in
-    let i = c.loop-i.-i in
+    let i = c.loop-i._i in
     let within : i < length line = omega (arith, c.loop-i-test.true, c.len-count.ensures.many) in
     let queue = line_of c.loop-i.second in
     elim c.match-pop.branch [
@@ -30,7 +30,7 @@ loop-i-preserved g c =
           let turn =
           part-over line i within p (λ x. not (p x)) (λ x. refl) queue c.loop-i.invariant.1 w.in-Some.station w.in-Some.ensures.answer
           (ap (passes g.K.Kind c.args.limit) (sym w.handed.ensures) ∙ sym w.if-passing.ensures) in (
-            ap line_of w.first-is ∙ w.push-bottom.ensures ∙ ap (λ l. l ++ w.in-Some.station ∷ []) c.loop-i.invariant.0 ∙ turn.0,
+            ap line_of w.first-is ∙ w.push_bottom.ensures ∙ ap (λ l. l ++ w.in-Some.station ∷ []) c.loop-i.invariant.0 ∙ turn.0,
             ap line_of w.second-is ∙ c.pop.ensures.after ∙ turn.1,
           )
       | in-Some+else-passing w ↦
@@ -38,11 +38,11 @@ loop-i-preserved g c =
           part_stays line i within p (λ x. not (p x)) (λ x. refl) queue c.loop-i.invariant.1 w.in-Some.station w.in-Some.ensures.answer
           (ap (passes g.K.Kind c.args.limit) (sym w.handed.ensures) ∙ sym w.if-passing.ensures) in (
             ap line_of w.first-is ∙ c.loop-i.invariant.0 ∙ turn.0,
-            ap line_of w.second-is ∙ w.push-bottom-else-passing.ensures ∙ ap (λ l. l ++ w.in-Some.station ∷ []) c.pop.ensures.after ∙ turn.1,
+            ap line_of w.second-is ∙ w.push_bottom-else-passing.ensures ∙ ap (λ l. l ++ w.in-Some.station ∷ []) c.pop.ensures.after ∙ turn.1,
           )
-      | in-default w ↦
+      | in_default w ↦
           let some = next-top line i within p (λ x. not (p x)) (λ x. refl) queue c.loop-i.invariant.1 in
-          let none = w.in-default.ensures.answer in
+          let none = w.in_default.ensures.answer in
           let never : ◌≡◌ {A = ℕ} 0 1 = cc in
           let bad : ⊥ = omega arith in
           absurd bad
@@ -52,9 +52,9 @@ pub returns : goal.returns
 returns g c =
     let p : ℕ → Bool = λ x. passes g.K.Kind c.args.limit (slice_get c.args.labels.now x) in
     let line = line_of c.args.second.now in
-    let done : length line ≤ c.loop-i.-i = omega (arith, c.loop-i-test.false, c.len-count.ensures.many) in
-    let all = take_all c.loop-i.-i line done in
+    let done : length line ≤ c.loop-i._i = omega (arith, c.loop-i-test.false, c.len-count.ensures.many) in
+    let all = take_all c.loop-i._i line done in
     record {
       over = c.loop-i.invariant.0 ∙ ap (filter p) all;
-      left = c.loop-i.invariant.1 ∙ ap (λ l. l ++ filter (λ x. not (p x)) (take c.loop-i.-i line)) (drop_all c.loop-i.-i line done) ∙ ap (filter (λ x. not (p x))) all;
+      left = c.loop-i.invariant.1 ∙ ap (λ l. l ++ filter (λ x. not (p x)) (take c.loop-i._i line)) (drop_all c.loop-i._i line done) ∙ ap (filter (λ x. not (p x))) all;
     }

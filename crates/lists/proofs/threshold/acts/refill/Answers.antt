@@ -3,13 +3,13 @@ use Rattle.std.specs.List.{slice_get}
 use Rattle.lists.specs.Thresholds.{queues_of}
 use Rattle.lists.specs.Queues.{line_of}
 use Rattle.lists.specs.Thresholds.{passes}
-use Rattle.lists.proofs.Thresholds.{apart-parted, refilled-is}
+use Rattle.lists.specs.ThresholdsLemmas.{apart-parted, refilled-is}
 use Rattle.lists.proofs.threshold.acts.refill.Goals as goal
 
-pub invariant-of-list : goal.invariant-of-list
-invariant-of-list g c =
+pub invariant_of-list : goal.invariant_of-list
+invariant_of-list g c =
     let p : ℕ → Bool = λ x. passes g.K.Kind c.loosen-limit.result (slice_get c.args.labels.now x) in
-    (apart-parted p (line_of c.args.list.now.second) _ _ c.part.ensures.over c.part.ensures.left, tt)
+    record { apart = apart-parted p (line_of c.args.list.now.second) _ _ c.part.ensures.over c.part.ensures.left }
 
 pub returns : goal.returns
 returns g c =

@@ -12,8 +12,8 @@ use Rattle.lists.specs.Order.{Order, OrderLaws, Takes}
 use Rattle.lists.specs.Stations.{holds, proper, Apart, top_of, rest_of}
 use Rattle.lists.specs.Thresholds.{TwoQueues, passes, better_of, further, best_on, best_label, loosened, parted, refilled, readied, to_first, to_second, in_either, top_taken, threshold}
 use Rattle.lists.specs.StationsLemmas.{holds-push, holds-head, holds-below, holds-rest, proper-parts, proper-top}
-use Rattle.lists.proofs.Bests.{best-held, passes-own}
-use Rattle.lists.proofs.Partings.{holds_kept}
+use Rattle.lists.specs.Bests.{best-held, passes-own}
+use Rattle.lists.specs.Partings.{holds_kept}
 
 module _ (xs ys : List ℕ) (apart : Apart xs ys) (x : ℕ) where
   -- a station that is in neither joins one of them
