@@ -3,10 +3,16 @@ use Rattle.std.proofs.Common.{refl, arith}
 use Rattle.buckets.proofs.Fresh.{fresh-settled, fresh-counts}
 use Rattle.buckets.proofs.chains.Chains.clear.Goals as goal
 
-pub invariant-of-self : goal.invariant-of-self
-invariant-of-self c =
+pub invariant_of-self : goal.invariant_of-self
+invariant_of-self c =
     let w = fresh-settled c.close.new.links c.close-2.new.links c.close.ensures c.close-2.ensures in
-    ((omega arith, omega arith, refl), (w.tied, (w.once, (w.homes, (fresh-counts, tt)))))
+    record {
+      sized = (omega arith, omega arith, refl);
+      ties = w.tied;
+      once = w.once;
+      homes = w.homes;
+      counted = fresh-counts;
+    }
 
 pub returns : goal.returns
 returns c = (fresh-settled c.close.new.links c.close-2.new.links c.close.ensures c.close-2.ensures).are

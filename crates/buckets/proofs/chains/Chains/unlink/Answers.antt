@@ -18,14 +18,20 @@ bounds-self-after c = after-below c.args.self.now c.args.station c.requires
 pub bounds-self-station-3 : goal.bounds-self-station-3
 bounds-self-station-3 c = gone-below c.args.self.now c.args.station c.requires
 
-pub overflow-sub-self : goal.overflow-sub-self
-overflow-sub-self c = omega (arith, c.args.self.now.counted, unlink-counts c.args.self.now c.args.station c.requires)
+pub overflow_sub-self : goal.overflow_sub-self
+overflow_sub-self c = omega (arith, c.args.self.now.counted, unlink-counts c.args.self.now c.args.station c.requires)
 
-pub invariant-of-self : goal.invariant-of-self
-invariant-of-self c =
+pub invariant_of-self : goal.invariant_of-self
+invariant_of-self c =
     let s = c.args.self.now in
     let w = unlink-settled s c.args.station c.requires in
-    ((length-set _ _ _ ∙ s.sized.0, length-set _ _ _ ∙ s.sized.1, length-set _ _ _ ∙ s.sized.2), (w.tied, (w.once, (w.homes, (omega (arith, s.counted, unlink-counts s c.args.station c.requires), tt)))))
+    record {
+      sized = (length-set _ _ _ ∙ s.sized.0, length-set _ _ _ ∙ s.sized.1, length-set _ _ _ ∙ s.sized.2);
+      ties = w.tied;
+      once = w.once;
+      homes = w.homes;
+      counted = omega (arith, s.counted, unlink-counts s c.args.station c.requires);
+    }
 
 pub returns : goal.returns
 returns c = (unlink-settled c.args.self.now c.args.station c.requires).are

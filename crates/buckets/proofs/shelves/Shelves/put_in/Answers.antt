@@ -13,11 +13,15 @@ push-requires c =
 pub insert-requires : goal.insert-requires
 insert-requires c = let s = c.args.self.now in omega (arith, rows-many s, s.fits, c.requires.bound)
 
-pub invariant-of-self : goal.invariant-of-self
-invariant-of-self c =
+pub invariant_of-self : goal.invariant_of-self
+invariant_of-self c =
     let s = c.args.self.now in
     let t = c.push.new.self in
-    (s.fits, ((λ k l. c.insert.ensures k ∙ put-marks s t c.args.b c.args.station c.requires.bound c.push.ensures k l), (put-beyond s t c.args.b c.args.station c.requires.bound c.push.ensures, tt)))
+    record {
+      fits = s.fits;
+      marks = λ k l. c.insert.ensures k ∙ put-marks s t c.args.b c.args.station c.requires.bound c.push.ensures k l;
+      beyond = put-beyond s t c.args.b c.args.station c.requires.bound c.push.ensures;
+    }
 
 pub returns : goal.returns
 unfolding rows_of

@@ -7,17 +7,17 @@ use Rattle.buckets.specs.Shelved.{rows_of}
 use Rattle.buckets.specs.RowsLemmas.{without_gone, placed-new, placed_moves, length-placed}
 use Rattle.buckets.proofs.shelves.Shelves.shift.Goals as goal
 
-pub take-out-requires : goal.take-out-requires
-take-out-requires c = c.requires.held c.args.home ∙ eq-eqb c.args.home c.args.home refl
+pub take_out-requires : goal.take_out-requires
+take_out-requires c = c.requires.held c.args.home ∙ eq-eqb c.args.home c.args.home refl
 
-pub put-in-requires : goal.put-in-requires
-put-in-requires c =
+pub put_in-requires : goal.put_in-requires
+put_in-requires c =
     let rows = rows_of c.args.self.now in
     let x = c.args.station in
     record {
-      bound = omega (arith, ap length c.take-out.ensures ∙ length-map rows (without x), c.requires.bound);
+      bound = omega (arith, ap length c.take_out.ensures ∙ length-map rows (without x), c.requires.bound);
       small = c.requires.small;
-      gone = ap (λ q. in_rows q x) c.take-out.ensures ∙ without_gone rows x;
+      gone = ap (λ q. in_rows q x) c.take_out.ensures ∙ without_gone rows x;
     }
 
 pub returns : goal.returns
@@ -27,6 +27,6 @@ returns c =
     let x = c.args.station in
     let home = c.args.home in
     let after =
-    c.put-in.ensures.after ∙ ap (λ q. placed q b x) c.take-out.ensures ∙ placed-new (map (without x) rows) b x (without_gone rows x)
+    c.put_in.ensures.after ∙ ap (λ q. placed q b x) c.take_out.ensures ∙ placed-new (map (without x) rows) b x (without_gone rows x)
     ∙ sym (placed_moves rows b x (c.requires.held b ∙ ne_eqb b home (λ e. c.requires.apart (sym e)))) in
     record { after = after; many = ap length after ∙ length-placed rows b x }

@@ -12,8 +12,8 @@ use Rattle.buckets.proofs.shelves.Shelves.take_first.Goals as goal
 pub first-requires : goal.first-requires
 first-requires c = let s = c.args.self.now in omega (arith, rows-many s, s.fits, c.requires)
 
-pub take-out-requires : goal.take-out-requires
-take-out-requires c =
+pub take_out-requires : goal.take_out-requires
+take_out-requires c =
     let s = c.args.self.now in
     let x = c.in-Some.station in
     let top = top-at s c.args.b (Some x) c.requires c.in-Some.ensures in
@@ -25,7 +25,7 @@ returns-in-Some c =
     let b = c.args.b in
     let x = c.in-Some.station in
     let top = top-at s b (Some x) c.requires c.in-Some.ensures in
-    let after = c.take-out.ensures ∙ rest-without (rows_of s) b x (rest_of (get_or (rows_of s) b [])) (sound s) c.requires (top-some (get_or (rows_of s) b []) x top) in
+    let after = c.take_out.ensures ∙ rest-without (rows_of s) b x (rest_of (get_or (rows_of s) b [])) (sound s) c.requires (top-some (get_or (rows_of s) b []) x top) in
     record { answer = top; after = after; many = ap length after ∙ length-set _ _ _ }
 
 pub returns-in-None : goal.returns-in-None

@@ -16,24 +16,32 @@ first-requires c = let s = c.args.self.now in omega (arith, held_below s c.args.
 pub remove-requires : goal.remove-requires
 remove-requires c = let s = c.args.self.now in omega (arith, held_below s c.args.b c.args.station c.requires, s.fits)
 
-pub invariant-of-self : goal.invariant-of-self
-invariant-of-self c =
+pub invariant_of-self : goal.invariant_of-self
+invariant_of-self c =
     let s = c.args.self.now in
     let t = c.unlink.new.self in
-    let off = sym (top-filled (row t c.args.b)) ∙ ap is_some (sym c.first.ensures) ∙ c.if-is-none.ensures in
-    (s.fits, ((λ k l. c.remove.ensures k ∙ left-marks-off s t c.args.b c.args.station c.requires c.unlink.ensures off k l), (left-beyond s t c.args.b c.args.station c.requires c.unlink.ensures, tt)))
+    let off = sym (top-filled (row t c.args.b)) ∙ ap is_some (sym c.first.ensures) ∙ c.if-is_none.ensures in
+    record {
+      fits = s.fits;
+      marks = λ k l. c.remove.ensures k ∙ left-marks-off s t c.args.b c.args.station c.requires c.unlink.ensures off k l;
+      beyond = left-beyond s t c.args.b c.args.station c.requires c.unlink.ensures;
+    }
 
-pub invariant-of-self-else-is-none : goal.invariant-of-self-else-is-none
-invariant-of-self-else-is-none c =
+pub invariant_of-self-else-is_none : goal.invariant_of-self-else-is_none
+invariant_of-self-else-is_none c =
     let s = c.args.self.now in
     let t = c.unlink.new.self in
-    let on = sym (top-filled (row t c.args.b)) ∙ ap is_some (sym c.first.ensures) ∙ c.if-is-none.ensures in
-    (s.fits, (left-marks-on s t c.args.b c.args.station c.requires c.unlink.ensures on, (left-beyond s t c.args.b c.args.station c.requires c.unlink.ensures, tt)))
+    let on = sym (top-filled (row t c.args.b)) ∙ ap is_some (sym c.first.ensures) ∙ c.if-is_none.ensures in
+    record {
+      fits = s.fits;
+      marks = left-marks-on s t c.args.b c.args.station c.requires c.unlink.ensures on;
+      beyond = left-beyond s t c.args.b c.args.station c.requires c.unlink.ensures;
+    }
 
-pub returns-then-is-none : goal.returns-then-is-none
+pub returns-then-is_none : goal.returns-then-is_none
 unfolding rows_of
-returns-then-is-none c = left-rows c.args.self.now c.unlink.new.self c.args.b c.args.station c.requires c.unlink.ensures
+returns-then-is_none c = left-rows c.args.self.now c.unlink.new.self c.args.b c.args.station c.requires c.unlink.ensures
 
-pub returns-else-is-none : goal.returns-else-is-none
+pub returns-else-is_none : goal.returns-else-is_none
 unfolding rows_of
-returns-else-is-none c = left-rows c.args.self.now c.unlink.new.self c.args.b c.args.station c.requires c.unlink.ensures
+returns-else-is_none c = left-rows c.args.self.now c.unlink.new.self c.args.b c.args.station c.requires c.unlink.ensures
