@@ -1,2 +1,1 @@
-pub mod AnyLaws
 pub mod Fresh

@@ -2,3 +2,4 @@ pub mod Names
 pub mod AnyOrder
 pub mod AnyModels
 pub mod Choices
+pub mod AnyLaws

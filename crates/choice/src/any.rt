@@ -1,7 +1,10 @@
 // Any of the candidate lists.
+ghost use Rattle.kinds.specs.declared.kind.Kind.{Ghosts};
+ghost use Rattle.lists.specs.Orders.{lawful-by};
 ghost use Rattle.lists.specs.Order.{waits_by, emptied_by, entered_by, picked_by};
 ghost use Rattle.choice.specs.AnyModels.{any_model};
 ghost use Rattle.choice.specs.AnyOrder.{any_order};
+ghost use Rattle.choice.specs.AnyLaws.{AnySound, sound, any_laws};
 
 use buckets::bucket::Bucket;
 use kinds::kind::Kind;
@@ -30,6 +33,9 @@ impl<K: Kind> CandidateList<K> for AnyList<K::Label, K::Grade> {
     ghost entered = { entered_by any_model (any_order K.Kind) };
 
     ghost picked = { picked_by any_model (any_order K.Kind) };
+
+    ghost lawful = { let k : Ghosts K K.Label K.Grade = record { start = K.start; carry = K.carry; at_least = K.at_least; rank = K.rank } in
+        lawful-by any_model (any_order k) (AnySound k K.lawful) (any_laws k K.lawful) (sound k K.lawful) };
 
     fn empty(&mut self) {
         match self {

@@ -5,7 +5,7 @@ use Rattle.kinds.specs.Laws.{Laws}
 use Rattle.lists.specs.Order.{OrderLaws, Takes}
 use Rattle.lists.specs.Stations.{proper}
 use Rattle.lists.specs.Lines.{first-laws, two-laws, small-laws}
-use Rattle.lists.proofs.Thresholds.{Sound, threshold-laws}
+use Rattle.lists.specs.ThresholdsLemmas.{Sound, threshold-laws}
 use Rattle.buckets.specs.Laws.{SoundRing, ring-sound, bucket-laws}
 use Rattle.choice.specs.AnyOrder.{AnyModel, of_first_in, of_two_ended, of_small_label, of_threshold, of_bucket, any_waiting, any_cleared, any_entering, any_picking, any_order}
 use Rattle.choice.specs.AnyModels.{any_model}
