@@ -6,16 +6,16 @@ use Rattle.answers.proofs.text.trouble_text.Goals as goal
 
 pub returns-in-Unknown : goal.returns-in-Unknown
 returns-in-Unknown c =
-    subst (λ (e : Trouble). IfOk c.from-str.result (λ s. string_bytes s ≡ trouble_text e)) (sym c.in-Unknown.is) c.from-str.ensures.ok
+    subst (λ (e : Trouble). IfOk c.from_str.result (λ s. string_bytes s ≡ trouble_text e)) (sym c.in-Unknown.is) c.from_str.ensures.ok
 
 pub returns-in-NotNumber : goal.returns-in-NotNumber
 returns-in-NotNumber c =
     subst (λ (e : Trouble). IfOk c.format.result (λ s. string_bytes s ≡ trouble_text e)) (sym c.in-NotNumber.is)
-    (IfOk-weaker c.format.result _ _ (λ s p. p ∙ ap (λ b. codes "word " ++ (decimal c.in-NotNumber.word ++ (codes " is not a number from " ++ b))) c.bounds-text-range.ensures) c.format.ensures.ok)
+    (IfOk-weaker c.format.result _ _ (λ s p. p ∙ ap (λ b. codes "word " ++ (decimal c.in-NotNumber.word ++ (codes " is not a number from " ++ b))) c.bounds_text-range.ensures) c.format.ensures.ok)
 
 pub returns-in-NoSlash : goal.returns-in-NoSlash
 returns-in-NoSlash c =
-    subst (λ (e : Trouble). IfOk c.from-str-in-NoSlash.result (λ s. string_bytes s ≡ trouble_text e)) (sym c.in-NoSlash.is) c.from-str-in-NoSlash.ensures.ok
+    subst (λ (e : Trouble). IfOk c.from_str-in-NoSlash.result (λ s. string_bytes s ≡ trouble_text e)) (sym c.in-NoSlash.is) c.from_str-in-NoSlash.ensures.ok
 
 pub returns-in-NoLabel : goal.returns-in-NoLabel
 returns-in-NoLabel c =
