@@ -24,7 +24,7 @@ loop-i-preserved g c =
     c.loop-i.invariant
     ∙ read_one k.reads k.bounds ws i (vec_items c.loop-i.out) c.in-Some.x here
     (c.in-Some.ensures ∙ ap k.reads (word_at c.args.words.now _ c.args.to i c.loop-i-test.true))
-    ∙ ap (λ xs. after xs (read_all k.reads k.bounds (i + 1 + 1) (drop (i + 1) ws))) (sym c.in-ok-push.ensures.items)
+    ∙ ap (λ xs. after xs (read_all k.reads k.bounds (i + 1 + 1) (drop (i + 1) ws))) (sym c.in_ok-push-in-Some.ensures.items)
 
 pub returns : goal.returns
 returns g c =

@@ -10,10 +10,10 @@ returns g c =
     let k = g.T.Readable in
     let words = c.args.words.now in
     let e : take (length words) (map (λ x. x.now) words) ≡ map (λ x. x.now) words = take_all _ _ (omega (arith, length-map words (λ x. x.now))) in
-    subst (λ (ws : List (List ℕ)). Got vec_items (read_all k.reads k.bounds 2 (drop 1 ws)) c.read-all.result) e c.read-all.ensures
+    subst (λ (ws : List (List ℕ)). Got vec_items (read_all k.reads k.bounds 2 (drop 1 ws)) c.read_all.result) e c.read_all.ensures
 
-pub returns-then-is-empty : goal.returns-then-is-empty
-returns-then-is-empty g c =
+pub returns-then-is_empty : goal.returns-then-is_empty
+returns-then-is_empty g c =
     let k = g.T.Readable in
     let words = c.args.words.now in
-    ap (λ ws. read_all k.reads k.bounds 2 (drop 1 (map (λ x. x.now) ws))) (nil_from_length words (eqb-true (length words) 0 (sym c.if-is-empty.ensures))) ∙ ap Ok (sym c.new.ensures.items)
+    ap (λ ws. read_all k.reads k.bounds 2 (drop 1 (map (λ x. x.now) ws))) (nil_from_length words (eqb-true (length words) 0 (sym c.if-is_empty.ensures))) ∙ ap Ok (sym c.new.ensures.items)
