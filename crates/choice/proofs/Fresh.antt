@@ -1,11 +1,11 @@
 -- A new list is as after emptying.
-use Rattle.std.proofs.Common.{◌≡◌, ℕ, Bool, true, false, cond, List, [], Ok, Err, Result, refl, ap, subst}
+use Rattle.std.proofs.Common.{◌≡◌, ℕ, Bool, true, false, cond, [], Ok, Err, Result, refl, ap, subst}
 use lib.ListN.{length-replicate}
 use Rattle.refusals.specs.declared.list.ListFault.{ListFault}
 use Rattle.refusals.specs.declared.list.ListFault.TheVariants.{Buckets}
 use Rattle.kinds.specs.declared.kind.Kind.{Ghosts}
 use Rattle.buckets.specs.Buckets.{no_rows, bucket_count, buckets_refused}
-use Rattle.choice.specs.AnyOrder.{AnyModel, of_bucket, any_cleared}
+use Rattle.choice.specs.AnyOrder.{AnyModel, of_bucket}
 use Rattle.choice.specs.Choices.{chosen, Fresh}
 use Rattle.choice.specs.declared.make.Choice.{Choice}
 use Rattle.choice.specs.declared.make.Choice.TheVariants as choice

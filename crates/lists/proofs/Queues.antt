@@ -1,5 +1,5 @@
 -- What pushing to a queue and taking its top make of its line, its marks and its invariants.
-use Rattle.std.proofs.Common.{◌≡◌, ℕ, ◌+◌, ◌-◌, ◌%◌, ◌<◌, ◌≤◌, true, false, not, ◌&&◌, eqb, List, [], ◌∷◌, ◌++◌, length, get_or, set, sym, refl, ap, ◌∙◌, add-one, arith}
+use Rattle.std.proofs.Common.{◌≡◌, ℕ, ◌+◌, ◌-◌, ◌%◌, ◌<◌, true, false, not, ◌&&◌, eqb, [], ◌∷◌, ◌++◌, length, get_or, set, sym, refl, ap, ◌∙◌, add-one, arith}
 use Rattle.lists.specs.Stations.{holds, proper}
 use Rattle.lists.specs.Ring.{ring_from}
 use Rattle.lists.specs.Queues.{line_of}

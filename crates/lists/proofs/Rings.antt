@@ -1,5 +1,5 @@
 -- What a write at the bottom or above the top of a ring makes of what stands in it.
-use Rattle.std.proofs.Common.{◌≡◌, ℕ, zero, suc, ◌+◌, ◌-◌, ◌%◌, ◌<◌, ◌≤◌, ◌≢◌, List, [], ◌∷◌, ◌++◌, length, get_or, set, sym, refl, ap, ◌∙◌, arith, get_or-set_other, get_or-set_same}
+use Rattle.std.proofs.Common.{◌≡◌, ℕ, zero, suc, ◌+◌, ◌-◌, ◌%◌, ◌<◌, ◌≤◌, ◌≢◌, List, [], ◌∷◌, ◌++◌, length, get_or, set, refl, ap, ◌∙◌, arith, get_or-set_other, get_or-set_same}
 use Rattle.lists.specs.Ring.{ring_from}
 
 pub length-ring : (ring : List ℕ) (h n : ℕ) → length (ring_from ring h n) ≡ n

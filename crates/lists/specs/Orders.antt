@@ -1,5 +1,5 @@
 -- A list that keeps to an order with the laws is lawful.
-use Rattle.std.specs.Prelude.{◌≡◌, ℕ, true, false, not, ◌&&◌, eqb, List, Some, None, Option}
+use Rattle.std.specs.Prelude.{ℕ, List, Some, None, Option}
 use Rattle.std.proofs.Common.{sym, ap, ◌∙◌, subst}
 use Rattle.lists.specs.Meaning.{ListLaws}
 use Rattle.lists.specs.Order.{Order, OrderLaws, Takes, waits_by, emptied_by, entered_by, picked_by}

@@ -1,16 +1,15 @@
 -- The two queues of a threshold list stay apart, and the laws of its order: a threshold loosened to the best label of the second queue, carried over
 -- the step, lets a station pass, so that a pick finds one wherever one waits.
-use Rattle.std.proofs.Common.{◌≡◌, ℕ, ◌<◌, Bool, true, false, cond, not, ◌&&◌, ◌||◌, eqb, ◌⊎◌, List, [], ◌∷◌, ◌++◌, Some, None, filter, Option, unwrap_or, sym, refl, ap, ◌∙◌, subst, inl, inr, ⊎_elim, arith}
+use Rattle.std.proofs.Common.{◌≡◌, ℕ, Bool, true, false, cond, not, ◌&&◌, ◌||◌, eqb, List, [], ◌∷◌, ◌++◌, Some, filter, Option, unwrap_or, sym, refl, ap, ◌∙◌, subst, ⊎_elim, arith}
 use Rattle.std.specs.Option.{option_map}
 use Rattle.std.specs.List.{slice_get}
-use Rattle.std.proofs.lemmas.Bool.{cases_eq, cases_Bool, both_ways, cond-true, cond-false, or_cases, or_from, or_parts, and_parts}
+use Rattle.std.proofs.lemmas.Bool.{cases_eq, cases_Bool, both_ways, cond-true, cond-false, or_cases}
 use Rattle.std.proofs.lemmas.Bool.Decides.{nat_tests}
 use Rattle.kinds.specs.declared.kind.Kind.{Ghosts}
 use Rattle.kinds.specs.Laws.{Laws}
-use Rattle.kinds.proofs.Lawful.{reflexive}
-use Rattle.lists.specs.Order.{Order, OrderLaws, Takes}
+use Rattle.lists.specs.Order.{OrderLaws, Takes}
 use Rattle.lists.specs.Stations.{holds, proper, Apart, top_of, rest_of}
-use Rattle.lists.specs.Thresholds.{TwoQueues, passes, better_of, further, best_on, best_label, loosened, parted, refilled, readied, to_first, to_second, in_either, top_taken, threshold}
+use Rattle.lists.specs.Thresholds.{TwoQueues, passes, best_label, loosened, parted, refilled, readied, to_first, to_second, in_either, top_taken, threshold}
 use Rattle.lists.specs.StationsLemmas.{holds-push, holds-head, holds-below, holds-rest, proper-parts, proper-top}
 use Rattle.lists.specs.Bests.{best-held, passes-own}
 use Rattle.lists.specs.Partings.{holds_kept}

@@ -1,4 +1,4 @@
-use Rattle.std.proofs.Common.{length, sym, refl, arith}
+use Rattle.std.proofs.Common.{length, sym, refl}
 use Rattle.std.proofs.lemmas.Option.{slice_get_read, slice_get_past}
 use Rattle.lists.proofs.handed.label_at.Goals as goal
 

@@ -1,11 +1,11 @@
 -- Each turn parts one station more.
-use Rattle.std.proofs.Common.{◌≡◌, ℕ, ◌<◌, ◌≤◌, Bool, true, false, not, [], ◌∷◌, ◌++◌, length, take, drop, filter, sym, refl, ap, ◌∙◌, arith}
+use Rattle.std.proofs.Common.{◌≡◌, ℕ, ◌<◌, ◌≤◌, Bool, not, [], ◌∷◌, ◌++◌, length, take, filter, sym, refl, ap, ◌∙◌, arith}
 use Rattle.std.specs.List.{slice_get}
 use Rattle.std.proofs.lemmas.List.{take_all, drop_all}
 use Rattle.lists.specs.Queues.{line_of}
 use Rattle.lists.specs.Stations.{holds}
 use Rattle.lists.specs.Thresholds.{passes}
-use Rattle.lists.specs.Partings.{next-top, part-over, part_stays, out-of-moved, out-of-rest}
+use Rattle.lists.specs.Partings.{next-top, part-over, part_stays, out-of-moved}
 use Rattle.lists.proofs.threshold.acts.part.Goals as goal
 use Rattle.lists.proofs.threshold.acts.part.Goals.{in-Some+then-passing, in-Some+else-passing, in_default}
 
