@@ -1,13 +1,8 @@
-// A site at work: the commands of a site script carried out on a net and its grades.
+// A site at work: the commands of a site script carried out on a net and its book.
 #![tactic(auto)]
 
-pub mod answer;
+pub mod book;
+mod by_hand;
 pub mod desk;
-pub mod grades;
-pub mod lists;
 pub mod plot;
-pub mod read;
-pub mod text;
-pub mod trouble;
-pub mod verb;
 pub mod way;

@@ -3,14 +3,14 @@ ghost use Rattle.std.specs.Prelude.{◌≡◌, false, is_some};
 ghost use Rattle.net.specs.Table.{table};
 ghost use Rattle.net.specs.Judged.{net_fault};
 
-use crate::grades::Grades;
+use crate::book::Book;
 
-// An open site: the two lists of its net, which are one, and its grades.
+// An open site: the two lists of its net, which are one, and its book.
 #[derive(Drop)]
 pub struct Site {
     starts: Vec<u16>,
     heads: Vec<u16>,
-    grades: Grades,
+    book: Book,
     ghost lawful: { is_some (net_fault (table starts.items heads.items)) ≡ false },
 }
 
