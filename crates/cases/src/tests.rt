@@ -42,7 +42,7 @@ fn kinds_carry(rt: HostRuntime) {
         ByMargin::carry(Margin::new(127), Margin::new(-128)).decibels(),
         -128
     );
-    assert_eq!(rt; worked_cases(), 13);
+    assert_eq!(rt; worked_cases(), 7);
 }
 
 #[test]

@@ -2,15 +2,14 @@
 use Rattle.std.proofs.Common.{◌≡◌, ℕ, ◌<◌, true, false, List, [], ◌∷◌, map, length, get_or, None, Ok, Option, Result, sym, refl, ap, ◌∙◌, subst, inr, arith, Bor}
 use lib.ListN.{length-map, get_or-map}
 use Rattle.std.proofs.lemmas.Bool.{eq-eqb, ne_eqb}
-use Rattle.answers.specs.declared.answer.Answer.{Answer}
-use Rattle.answers.specs.declared.trouble.Trouble.{Trouble}
-use Rattle.answers.specs.declared.trouble.Trouble.TheVariants.{NoKind}
-use Rattle.answers.specs.declared.verb.KindName.{KindName}
-use Rattle.answers.specs.declared.verb.Verb.{Verb}
-use Rattle.answers.specs.Verbs.{verb_of, kind_named}
+use Rattle.site.specs.declared.answer.Answer.{Answer}
+use Rattle.site.specs.declared.trouble.Trouble.{Trouble}
+use Rattle.site.specs.declared.trouble.Trouble.TheVariants.{NoKind}
+use Rattle.site.specs.declared.verb.KindName.{KindName}
+use Rattle.site.specs.declared.verb.Verb.{Verb}
 use Rattle.site.specs.Model.{Model}
-use Rattle.answers.specs.Outcomes.{Outcome, Came, troubled}
-use Rattle.site.specs.Commands.{Commanded, Obeys, kind_chosen, kind_outcome, comment, as_line}
+use Rattle.site.specs.Commands.{Outcome, Came, Commanded, Obeys, troubled, chosen, kind_outcome, comment, as_line}
+use Rattle.site.specs.Verbs.{verb_of, kind_named}
 
 -- the outcome is known
 pub came : {M : Type 0} (o p : Outcome M) (m : M) → o ≡ p → Came o m p.says p.leaves
@@ -20,9 +19,9 @@ module _ (m : Model) (words : List (Bor (List ℕ))) where
   pub kind-words : (length words ≡ 2 → ⊥) → kind_outcome m (map (λ x. x.now) words) ≡ troubled NoKind m
   kind-words h = rw (length-map words (λ x. x.now), ne_eqb (length words) 2 h)
 
-  pub kind-word : (d : Bor (List ℕ)) (o : Option KindName) → d.now ≡ [] → length words ≡ 2 → o ≡ kind_named (get_or words 1 d).now → kind_outcome m (map (λ x. x.now) words) ≡ kind_chosen m o
+  pub kind-word : (d : Bor (List ℕ)) (o : Option KindName) → d.now ≡ [] → length words ≡ 2 → o ≡ kind_named (get_or words 1 d).now → kind_outcome m (map (λ x. x.now) words) ≡ chosen m o
   kind-word d o z h e =
-      rw (length-map words (λ x. x.now), eq-eqb (length words) 2 h) (ap (kind_chosen m) (ap kind_named (ap (get_or (map (λ x. x.now) words) 1) (sym z) ∙ get_or-map (λ x. x.now) words 1 d) ∙ sym e))
+      rw (length-map words (λ x. x.now), eq-eqb (length words) 2 h) (ap (chosen m) (ap kind_named (ap (get_or (map (λ x. x.now) words) 1) (sym z) ∙ get_or-map (λ x. x.now) words 1 d) ∙ sym e))
 
 pub no-comment : (w : List ℕ) → length w ≡ 0 → comment w ≡ false
 no-comment [] h = refl

@@ -1,2 +1,4 @@
+pub mod Spelt
 pub mod Broken
 pub mod Commanded
+pub mod Slashed

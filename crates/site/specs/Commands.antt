@@ -4,32 +4,43 @@ use Rattle.refusals.specs.declared.net.NetFault.{NetFault}
 use Rattle.refusals.specs.Tells.{net_tells}
 use Rattle.net.specs.Table.{Table, station_count, link_count}
 use Rattle.net.specs.Judged.{net_fault}
-use Rattle.answers.specs.declared.answer.Answer.{Answer}
-use Rattle.answers.specs.declared.answer.Answer.TheVariants as answer
-use Rattle.answers.specs.declared.trouble.Trouble.{Trouble}
-use Rattle.answers.specs.declared.trouble.Trouble.TheVariants.{Unknown, NoNet, NoKind, NotPath, Memory}
-use Rattle.answers.specs.declared.verb.KindName.{KindName}
-use Rattle.answers.specs.declared.verb.Verb.{Verb}
-use Rattle.answers.specs.declared.verb.Verb.TheVariants as verb
-use Rattle.answers.specs.declared.verb.SiteVerb.{SiteVerb}
-use Rattle.answers.specs.declared.verb.SiteVerb.TheVariants as asked
-use Rattle.answers.specs.declared.answer.Label.{Label}
-use Rattle.answers.specs.declared.trouble.Bounds.{Bounds}
-use Rattle.answers.specs.declared.fault.WayFault.{WayFault}
-use Rattle.answers.specs.Verbs.{verb_of, kind_named}
+use Rattle.site.specs.declared.answer.Answer.{Answer}
+use Rattle.site.specs.declared.answer.Answer.TheVariants as answer
+use Rattle.site.specs.declared.trouble.Trouble.{Trouble}
+use Rattle.site.specs.declared.trouble.Trouble.TheVariants.{Unknown, NoNet, NoKind, NotPath, Memory}
+use Rattle.site.specs.declared.verb.KindName.{KindName}
+use Rattle.site.specs.declared.verb.Verb.{Verb}
+use Rattle.site.specs.declared.verb.Verb.TheVariants as verb
+use Rattle.site.specs.declared.answer.Label.{Label}
+use Rattle.site.specs.declared.trouble.Bounds.{Bounds}
+use Rattle.site.specs.declared.way.WayFault.{WayFault}
 use Rattle.kinds.specs.declared.airtime.Airtime.{Airtime}
 use Rattle.kinds.specs.declared.chance.Chance.{Chance}
 use Rattle.kinds.specs.declared.margin.Margin.{Margin}
 use Rattle.kinds.specs.Shipped.{by_airtime, by_chance, by_margin}
-use Rattle.answers.specs.Outcomes.{Outcome, troubled, answered, Does, Came}
-use Rattle.site.specs.Model.{Model, Held, airtimes, chances, margins, new_held}
-use Rattle.site.specs.Books.{grades_outcome, poke_outcome, list_outcome, enter_outcome, pick_outcome, empty_outcome, waiting_outcome}
+use Rattle.site.specs.Model.{Model, GradeList, airtimes, chances, margins, grade_count, grades_read, zeros}
 use Rattle.script.specs.Words.{words_of}
-use Rattle.reading.specs.Nets.{net_read}
+use Rattle.site.specs.Nets.{net_read}
 use Rattle.site.specs.Plots.{fresh}
-use Rattle.reading.specs.Reading.{read_all}
-use Rattle.reading.specs.Spelling.{short_read}
+use Rattle.site.specs.Reading.{read_all}
+use Rattle.site.specs.Spelling.{short_read}
 use Rattle.site.specs.Ways.{Proposed}
+use Rattle.site.specs.Verbs.{verb_of, kind_named}
+
+-- an answer and what it leaves
+pub record Outcome (M : Type 0) : Type 0 where
+  pub says : Result Answer Trouble
+  pub leaves : M
+
+abbrev pub troubled : {M : Type 0} → Trouble → M → Outcome M
+troubled e m = record { says = Err e; leaves = m }
+
+abbrev pub answered : {M : Type 0} → Answer → M → Outcome M
+answered a m = record { says = Ok a; leaves = m }
+
+-- what was to come came, or there was not enough memory and nothing has changed
+abbrev pub Came : {M : Type 0} → Outcome M → M → Result Answer Trouble → M → Type 0
+Came o m r n = ((r ≡ Err Memory) × (n ≡ m)) ⊎ ((r ≡ o.says) × (n ≡ o.leaves))
 
 -- `net`: a new site over the two lists, if they are a net
 abbrev pub judged_net : Option Model → Table → Option NetFault → Outcome (Option Model)
@@ -44,63 +55,53 @@ abbrev pub NetLine : Option Model → List (List ℕ) → Result Answer Trouble 
 NetLine o ws r p = Came (opened o (net_read ws)) o r p
 
 -- `kind`: one word that names a kind
-abbrev pub kind_chosen : Model → Option KindName → Outcome Model
-kind_chosen m None = troubled NoKind m
-kind_chosen m (Some k) = answered (answer.Kind k) (record { links = m.links; held = new_held k (station_count m.links) (link_count m.links) })
+abbrev pub chosen : Model → Option KindName → Outcome Model
+chosen m None = troubled NoKind m
+chosen m (Some k) = answered (answer.Kind k) (record { links = m.links; grades = zeros k (link_count m.links) })
 
 abbrev pub kind_outcome : Model → List (List ℕ) → Outcome Model
-kind_outcome m ws = cond (length ws == 2) (kind_chosen m (kind_named (slice_index_or ws 1 []))) (troubled NoKind m)
+kind_outcome m ws = cond (length ws == 2) (chosen m (kind_named (slice_index_or ws 1 []))) (troubled NoKind m)
 
 abbrev pub KindLine : Model → List (List ℕ) → Result Answer Trouble → Model → Type 0
 KindLine m ws r n = Came (kind_outcome m ws) m r n
 
--- what comes of the book comes of the site
-abbrev pub on_book : Model → Outcome Held → Outcome Model
-on_book m o = record { says = o.says; leaves = record { links = m.links; held = o.leaves } }
-
 -- `grades`: the list that the words spell, however long it is
+abbrev pub taken : Model → Result GradeList Trouble → Outcome Model
+taken m (Err e) = troubled e m
+taken m (Ok gs) = answered (answer.Grades (grade_count gs)) (record { links = m.links; grades = gs })
+
 abbrev pub GradesLine : Model → List (List ℕ) → Result Answer Trouble → Model → Type 0
-GradesLine m ws r n = Came (on_book m (grades_outcome m.held ws)) m r n
+GradesLine m ws r n = Came (taken m (grades_read m.grades ws)) m r n
 
 -- `path`: what is answered of a way is what holds of it as a proposal, in the kind that the site has
 abbrev pub said : {L : Type 0} → (L → Label) → Result L WayFault → Result Answer Trouble
 said label (Ok x) = Ok (answer.Path (label x))
 said label (Err f) = Err (NotPath f)
 
-abbrev pub Graded : Table → Held → List ℕ → Result Answer Trouble → Type 0
-Graded t (airtimes h) way r = (x : Result Airtime WayFault) × Proposed by_airtime t h.grades way x × (r ≡ said Label.Airtime x)
-Graded t (chances h) way r = (x : Result Chance WayFault) × Proposed by_chance t h.grades way x × (r ≡ said Label.Chance x)
-Graded t (margins h) way r = (x : Result Margin WayFault) × Proposed by_margin t h.grades way x × (r ≡ said Label.Margin x)
+abbrev pub Graded : Table → GradeList → List ℕ → Result Answer Trouble → Type 0
+Graded t (airtimes gs) way r = (x : Result Airtime WayFault) × Proposed by_airtime t gs way x × (r ≡ said Label.Airtime x)
+Graded t (chances gs) way r = (x : Result Chance WayFault) × Proposed by_chance t gs way x × (r ≡ said Label.Chance x)
+Graded t (margins gs) way r = (x : Result Margin WayFault) × Proposed by_margin t gs way x × (r ≡ said Label.Margin x)
 
 abbrev pub GradedOr : Model → Result (List ℕ) Trouble → Result Answer Trouble → Type 0
 GradedOr m (Err e) r = r ≡ Err e
-GradedOr m (Ok way) r = Graded m.links m.held way r
+GradedOr m (Ok way) r = Graded m.links m.grades way r
 
 abbrev pub PathLine : Model → List (List ℕ) → Result Answer Trouble → Type 0
 PathLine m ws r = (r ≡ Err Memory) ⊎ GradedOr m (read_all short_read Bounds.Short 2 (drop 1 ws)) r
 
--- on the open site; without one there is no net yet
+-- what a command comes to that works on an open site
 abbrev pub OnSite : (Model → Result Answer Trouble → Model → Type 0) → Option Model → Result Answer Trouble → Option Model → Type 0
-OnSite Line None r p = (r ≡ Err NoNet) × (p ≡ None)
-OnSite Line (Some m) r p = (n : Model) × Line m r n × (p ≡ Some n)
-
--- what a command on an open site comes to; the list commands and `poke` allocate nothing, so they never want memory
-abbrev pub SiteLine : SiteVerb → Model → List (List ℕ) → Result Answer Trouble → Model → Type 0
-SiteLine asked.Kind m ws r n = KindLine m ws r n
-SiteLine asked.Grades m ws r n = GradesLine m ws r n
-SiteLine asked.List m ws r n = Does (on_book m (list_outcome m.held ws)) r n
-SiteLine asked.Path m ws r n = PathLine m ws r × (n ≡ m)
-SiteLine asked.Poke m ws r n = Does (on_book m (poke_outcome m.held ws)) r n
-SiteLine asked.Enter m ws r n = Does (on_book m (enter_outcome m.held ws)) r n
-SiteLine asked.Pick m ws r n = Does (on_book m (pick_outcome m.held ws)) r n
-SiteLine asked.Empty m ws r n = Does (on_book m (empty_outcome m.held ws)) r n
-SiteLine asked.Waiting m ws r n = Does (on_book m (waiting_outcome m.held ws)) r n
+OnSite Does None r p = (r ≡ Err NoNet) × (p ≡ None)
+OnSite Does (Some m) r p = (n : Model) × Does m r n × (p ≡ Some n)
 
 -- what a line comes to, by its first word
 abbrev pub Commanded : Option Verb → Option Model → List (List ℕ) → Result Answer Trouble → Option Model → Type 0
 Commanded None o ws r p = (r ≡ Err Unknown) × (p ≡ o)
 Commanded (Some verb.Net) o ws r p = NetLine o ws r p
-Commanded (Some (verb.Site v)) o ws r p = OnSite (λ m s n. SiteLine v m ws s n) o r p
+Commanded (Some verb.Kind) o ws r p = OnSite (λ m s n. KindLine m ws s n) o r p
+Commanded (Some verb.Grades) o ws r p = OnSite (λ m s n. GradesLine m ws s n) o r p
+Commanded (Some verb.Path) o ws r p = OnSite (λ m s n. PathLine m ws s × (n ≡ m)) o r p
 
 -- a command's answer is the line's
 abbrev pub as_line : Result Answer Trouble → Result (Option Answer) Trouble

@@ -1,16 +1,16 @@
 // Carrying out a script line by line.
-ghost use Rattle.std.specs.Prelude.{◌≡◌, map, None};
+ghost use Rattle.std.specs.Prelude.{◌≡◌, ◌≤◌, map, length, None};
 ghost use Rattle.site.specs.Commands.{NetLine, Commanded, comment, Obeys, Obeyed};
 ghost use Rattle.site.specs.Desks.{desk_of};
 ghost use Rattle.site.specs.Replies.{Replied};
 
+use crate::answer::Answer;
+use crate::lists::read_net;
 use crate::plot::Site;
 use crate::plot::acts::NotOpened;
-use answers::answer::Answer;
-use answers::text::{answer_text, error_text};
-use answers::trouble::Trouble;
-use answers::verb::{Verb, verb_of};
-use reading::net_line::read_net;
+use crate::text::{answer_text, error_text};
+use crate::trouble::Trouble;
+use crate::verb::{Verb, verb_of};
 use refusals::told::Fault;
 use script::words::words;
 use std::alloc::{AllocError, Global};
@@ -30,6 +30,7 @@ impl Desk {
 
     // Opens a new site, if the lists are a net; else all stays as it was.
     fn open(&mut self, heap: Global, words: &[&[u8]]) -> Result<Answer, Trouble>
+        requires { 1 ≤ length words.now }
         ensures { NetLine (desk_of self.old) (map (λ x. x.now) words.now) result (desk_of self.new) }
     {
         let (starts, heads) = match read_net(heap, words) {
@@ -54,13 +55,22 @@ impl Desk {
         words: &[&[u8]],
         verb: Option<Verb>,
     ) -> Result<Answer, Trouble>
+        requires { 1 ≤ length words.now }
         ensures { Commanded verb (desk_of self.old) (map (λ x. x.now) words.now) result (desk_of self.new) }
     {
         match verb {
             None => Err(Trouble::Unknown),
             Some(Verb::Net) => self.open(heap, words),
-            Some(Verb::Site(verb)) => match &mut self.site {
-                Some(site) => site.obey(heap, words, verb),
+            Some(Verb::Kind) => match &mut self.site {
+                Some(site) => site.choose(heap, words),
+                None => Err(Trouble::NoNet),
+            },
+            Some(Verb::Grades) => match &mut self.site {
+                Some(site) => site.take_grades(heap, words),
+                None => Err(Trouble::NoNet),
+            },
+            Some(Verb::Path) => match &self.site {
+                Some(site) => site.path(heap, words),
                 None => Err(Trouble::NoNet),
             },
         }

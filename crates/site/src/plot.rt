@@ -3,14 +3,14 @@ ghost use Rattle.std.specs.Prelude.{◌≡◌, false, is_some};
 ghost use Rattle.net.specs.Table.{table};
 ghost use Rattle.net.specs.Judged.{net_fault};
 
-use crate::book::Book;
+use crate::grades::Grades;
 
-// An open site: the two lists of its net, which are one, and its book.
+// An open site: the two lists of its net, which are one, and its grades.
 #[derive(Drop)]
 pub struct Site {
     starts: Vec<u16>,
     heads: Vec<u16>,
-    book: Book,
+    grades: Grades,
     ghost lawful: { is_some (net_fault (table starts.items heads.items)) ≡ false },
 }
 

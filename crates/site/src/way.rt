@@ -4,10 +4,20 @@ ghost use Rattle.paths.specs.Answer.{not_path};
 ghost use Rattle.net.specs.View.{table_of};
 ghost use Rattle.site.specs.Ways.{beginning, Faulted, Proposed};
 
-use answers::fault::WayFault;
 use kinds::kind::Kind;
 use net::star::Net;
 use paths::grade::{NotPath, grade_path};
+
+// Why a proposed way has no grade.
+#[derive(Clone, Copy, Debug, PartialEq, Eq)]
+pub enum WayFault {
+    // There are so many grades for so many links.
+    Grades(usize, usize),
+    // There is no such link.
+    NoLink(u16),
+    // The first link does not begin where the second, which stands before it, ends.
+    Parted(u16, u16),
+}
 
 // Where a way begins: at the tail of its first link, or at station 0 where it has none.
 fn beginning_of(net: &Net, way: &[u16]) -> u16

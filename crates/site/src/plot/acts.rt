@@ -5,8 +5,8 @@ ghost use Rattle.site.specs.declared.plot.acts.NotOpened.TheVariants.{Refused, M
 ghost use Rattle.site.specs.Plots.{model_of, Opens};
 
 use super::Site;
-use crate::book::new_book;
-use answers::verb::KindName;
+use crate::grades::zero_grades;
+use crate::verb::KindName;
 use net::star::Net;
 use refusals::net::NetFault;
 use std::alloc::{AllocError, Global};
@@ -37,17 +37,17 @@ impl From<AllocError> for NotOpened {
 }
 
 impl Site {
-    // A site over the net of two lists, with a new book in airtimes.
+    // A site over the net of two lists, where every link has airtime 0.
     pub(crate) fn open(heap: Global, starts: Vec<u16>, heads: Vec<u16>) -> Result<Site, NotOpened>
         ensures { Opens (table starts.items heads.items) result }
     {
         let mut net = Net::single();
         net.fill(starts.as_slice(), heads.as_slice())?;
-        let book = new_book(heap, KindName::Airtime, starts.len() - 1, heads.len())?;
+        let grades = zero_grades(heap, KindName::Airtime, heads.len())?;
         Ok(Site {
             starts,
             heads,
-            book,
+            grades,
         })
     }
 

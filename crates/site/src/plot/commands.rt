@@ -1,25 +1,25 @@
 // What the commands do to an open site. Words are counted from 0 here: word 0 is the command itself.
-ghost use Rattle.std.specs.Prelude.{◌≡◌, map};
+ghost use Rattle.std.specs.Prelude.{◌≡◌, ◌≤◌, map, length};
 ghost use Rattle.net.specs.View.{table_of};
-ghost use Rattle.site.specs.Model.{held_in};
+ghost use Rattle.site.specs.Model.{grades_in};
 ghost use Rattle.site.specs.Plots.{model_of};
-ghost use Rattle.site.specs.Commands.{KindLine, PathLine, Graded, SiteLine};
+ghost use Rattle.site.specs.Commands.{KindLine, GradesLine, PathLine, Graded};
 
 use super::Site;
-use crate::book::{Book, new_book};
+use crate::answer::{Answer, Label};
+use crate::grades::{Grades, read_grades, zero_grades};
+use crate::read::read_rest;
+use crate::trouble::Trouble;
+use crate::verb::kind_named;
 use crate::way::propose;
-use answers::answer::{Answer, Label};
-use answers::trouble::Trouble;
-use answers::verb::{SiteVerb, kind_named};
 use kinds::airtime::by::ByAirtime;
 use kinds::chance::by::ByChance;
 use kinds::margin::by::ByMargin;
 use net::star::Net;
-use reading::read::read_rest;
 use std::alloc::Global;
 
 impl Site {
-    // Chooses a kind, with a new book.
+    // Chooses a kind, and gives every link its grade 0.
     pub(crate) fn choose(&mut self, heap: Global, words: &[&[u8]]) -> Result<Answer, Trouble>
         ensures { KindLine (model_of self.old) (map (λ x. x.now) words.now) result (model_of self.new) }
     {
@@ -29,8 +29,23 @@ impl Site {
         let Some(kind) = kind_named(words[1]) else {
             return Err(Trouble::NoKind);
         };
-        self.book = new_book(heap, kind, self.starts.len() - 1, self.heads.len())?;
+        self.grades = zero_grades(heap, kind, self.heads.len())?;
         Ok(Answer::Kind(kind))
+    }
+
+    // Takes the grades that the words spell for those that the site has.
+    pub(crate) fn take_grades(&mut self, heap: Global, words: &[&[u8]]) -> Result<Answer, Trouble>
+        requires { 1 ≤ length words.now }
+        ensures { GradesLine (model_of self.old) (map (λ x. x.now) words.now) result (model_of self.new) }
+    {
+        match read_grades(heap, &self.grades, words) {
+            Ok(grades) => {
+                let count = grades.count();
+                self.grades = grades;
+                Ok(Answer::Grades(count))
+            }
+            Err(trouble) => Err(trouble),
+        }
     }
 
     // The net of the site's lists.
@@ -46,51 +61,30 @@ impl Site {
 
     // The grade of the way whose links the words spell.
     pub(crate) fn path(&self, heap: Global, words: &[&[u8]]) -> Result<Answer, Trouble>
+        requires { 1 ≤ length words.now }
         ensures { PathLine (model_of self.now) (map (λ x. x.now) words.now) result }
     {
         match read_rest(heap, words) {
-            Ok(way) => graded(&self.net(), &self.book, way.as_slice()),
+            Ok(way) => graded(&self.net(), &self.grades, way.as_slice()),
             Err(trouble) => Err(trouble),
-        }
-    }
-
-    // Carries out what is asked of an open site.
-    pub(crate) fn obey(
-        &mut self,
-        heap: Global,
-        words: &[&[u8]],
-        verb: SiteVerb,
-    ) -> Result<Answer, Trouble>
-        ensures { SiteLine verb (model_of self.old) (map (λ x. x.now) words.now) result (model_of self.new) }
-    {
-        match verb {
-            SiteVerb::Kind => self.choose(heap, words),
-            SiteVerb::Grades => self.book.take_grades(heap, words),
-            SiteVerb::List => self.book.take_list(words),
-            SiteVerb::Path => self.path(heap, words),
-            SiteVerb::Poke => self.book.poke(words),
-            SiteVerb::Enter => self.book.enter(words),
-            SiteVerb::Pick => self.book.pick(words),
-            SiteVerb::Empty => self.book.empty(words),
-            SiteVerb::Waiting => self.book.waiting(words),
         }
     }
 }
 
-// The grade of a way in the kind that the book has.
-fn graded(net: &Net, book: &Book, way: &[u16]) -> Result<Answer, Trouble>
-    ensures { Graded (table_of net.now) (held_in book.now) way.now result }
+// The grade of a way in the kind that the grades have.
+fn graded(net: &Net, grades: &Grades, way: &[u16]) -> Result<Answer, Trouble>
+    ensures { Graded (table_of net.now) (grades_in grades.now) way.now result }
 {
-    match book {
-        Book::ByAirtime(held) => match propose::<ByAirtime>(net, held.grades.as_slice(), way) {
+    match grades {
+        Grades::ByAirtime(list) => match propose::<ByAirtime>(net, list.as_slice(), way) {
             Ok(label) => Ok(Answer::Path(Label::Airtime(label))),
             Err(fault) => Err(Trouble::NotPath(fault)),
         },
-        Book::ByChance(held) => match propose::<ByChance>(net, held.grades.as_slice(), way) {
+        Grades::ByChance(list) => match propose::<ByChance>(net, list.as_slice(), way) {
             Ok(label) => Ok(Answer::Path(Label::Chance(label))),
             Err(fault) => Err(Trouble::NotPath(fault)),
         },
-        Book::ByMargin(held) => match propose::<ByMargin>(net, held.grades.as_slice(), way) {
+        Grades::ByMargin(list) => match propose::<ByMargin>(net, list.as_slice(), way) {
             Ok(label) => Ok(Answer::Path(Label::Margin(label))),
             Err(fault) => Err(Trouble::NotPath(fault)),
         },

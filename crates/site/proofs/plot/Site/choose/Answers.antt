@@ -1,5 +1,5 @@
-use Rattle.std.proofs.Common.{◌-◌, length, vec_items, sym, refl, ap, ◌∙◌, inr}
-use Rattle.site.specs.Model.{new_held}
+use Rattle.std.proofs.Common.{sym, refl, ap, ◌∙◌, inr}
+use Rattle.site.specs.Model.{zeros}
 use Rattle.site.specs.Plots.{model_of}
 use Rattle.site.proofs.Commanded.{came, kind-words, kind-word}
 use Rattle.site.proofs.plot.Site.choose.Goals as goal
@@ -13,11 +13,7 @@ returns-in_default c = came _ _ _ (kind-word (model_of c.args.self.now) c.args.w
 pub returns : goal.returns
 returns c =
     let m = model_of c.args.self.now in
-    let starts = c.args.self.now.starts in
     let heads = c.args.self.now.heads in
-    let kind = c.in-Some.kind in
     let e = kind-word m c.args.words.now _ _ refl c.if-words-ne2.false c.in-Some.ensures in
-    let g =
-    c.in_ok-self.ensures ∙ ap (λ n. new_held kind (n - 1) c.len-2.result) (c.len.ensures ∙ starts.ok.0)
-    ∙ ap (new_held kind (length (vec_items starts) - 1)) (c.len-2.ensures ∙ heads.ok.0) in
-    inr (ap (λ o. o.says) (sym e), ap (λ x. record { links = m.links; held = x }) g ∙ ap (λ o. o.leaves) (sym e))
+    let g = c.in_ok-self.ensures ∙ ap (zeros c.in-Some.kind) (c.len.ensures ∙ heads.ok.0) in
+    inr (ap (λ o. o.says) (sym e), ap (λ x. record { links = m.links; grades = x }) g ∙ ap (λ o. o.leaves) (sym e))
