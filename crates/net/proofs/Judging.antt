@@ -1,11 +1,13 @@
 -- The lists that meet no refusal are those with the forward-star property.
-use Rattle.std.proofs.Common.{◌≡◌, ℕ, ◌-◌, ◌≤◌, Bool, true, false, cond, not, ◌||◌, eqb, ltb, length, get_or, is_some, Some, None, Ok, Err, Option, Result, refl, arith, MatchResult}
-use Rattle.std.proofs.lemmas.Bool.{or_parts, not-false, ltb-false, leb-false, eqb-true, le-ltb, lt-leb, eq-eqb, or_from}
+use Rattle.std.proofs.Common.{◌≡◌, ℕ, ◌-◌, ◌≤◌, Bool, true, false, cond, not, ◌||◌, eqb, ltb, length, get_or, is_some, Some, None, Ok, Err, Option, Result, refl, sym, ap, inl, inr, arith, ◌+◌, ◌<◌, List, MatchBool, MatchOption, MatchResult}
+use Rattle.std.proofs.lemmas.Bool.{or_parts, not-false, ltb-false, leb-false, eqb-true, le-ltb, lt-leb, eq-eqb, or_from, le-leb}
+use Rattle.std.specs.List.{AllWithin, HoldsAt}
+use Rattle.std.specs.List.Sorted.{IsNonDecreasing}
 use Rattle.refusals.specs.declared.net.NetFault.{NetFault}
 use Rattle.net.specs.First.{first_below}
 use Rattle.net.specs.Table.{Table, ForwardStar}
 use Rattle.net.specs.Judged.{falls, misled, stray, net_fault, judged, head_fault}
-use Rattle.net.proofs.Firsts.{none-says, none_is}
+use Rattle.net.proofs.Firsts.{none-says, none_is, first-is, first-tells}
 
 -- a refusal that did not come: its test failed, and what stands after it did not come either
 cond-none : {E : Type 0} (b : Bool) (x : E) (o : Option E) → cond b (Some x) o ≡ None → (b ≡ false) × (o ≡ None)
@@ -67,3 +69,21 @@ judged-star t (Ok u) e = unrefused-star t (judged-ok _ u e)
 judged-star t (Err y) e = λ w.
     let n : judged (net_fault t) ≡ Ok tt = rw (star-unrefused t w) in
     let z : ◌≡◌ {A = ℕ} 0 1 = cc in absurd (omega arith)
+
+-- what `is_sorted` answers says whether some start is above the next
+pub falls-sorted : (s : List ℕ) (r : Bool)
+    → MatchBool r (IsNonDecreasing s) ((k : ℕ) × (k + 1 < length s) × ((d : ℕ) → get_or s (k + 1) d < get_or s k d))
+    → not r ≡ is_some (first_below (falls s) (length s - 1))
+falls-sorted s true up = sym (ap is_some (none_is _ _ (λ k l. le-ltb _ _ (up k (k + 1) 0 (omega arith) (omega arith)))))
+falls-sorted s false (k, l, down) =
+    elim (first-tells (falls s) (length s - 1)) [
+      | inl (none, _) ↦ absurd (omega (arith, ltb-false _ _ (none k (omega arith)), down 0))
+      | inr (_, _, _, _, e) ↦ rw e
+    ]
+
+-- what `position` answers is the first link whose head is no station
+pub stray-first : (n : ℕ) (h : List ℕ) (o : Option ℕ)
+    → MatchOption o (AllWithin (λ x. x < n) h 0 (length h)) (λ i. (i < length h) × HoldsAt (λ x. n ≤ x) h i × AllWithin (λ x. x < n) h 0 i)
+    → o ≡ first_below (stray n h) (length h)
+stray-first n h None all = sym (none_is _ _ (λ k l. lt-leb _ _ (all k 0 (omega arith) l)))
+stray-first n h (Some i) (l, is, before) = sym (first-is _ _ i l (le-leb _ _ (is 0)) (λ j m. lt-leb _ _ (before j 0 (omega arith) m)))

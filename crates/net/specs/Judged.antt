@@ -1,5 +1,5 @@
 -- Which refusal two lists meet that are to be a net.
-use Rattle.std.specs.Prelude.{ℕ, ◌+◌, ◌-◌, Bool, cond, not, ◌||◌, List, length, is_some, Some, None, Ok, Err, Option, Result, ◌==◌, nat_le, nat_lt, slice_index}
+use Rattle.std.specs.Prelude.{ℕ, ◌+◌, ◌-◌, Bool, if◌then◌else◌, not, ◌||◌, List, length, is_some, Some, None, Ok, Err, Option, Result, ◌==◌, nat_le, nat_lt, slice_index}
 use Rattle.refusals.specs.declared.net.NetFault.{NetFault}
 use Rattle.refusals.specs.declared.net.NetFault.TheVariants.{Stations, Links, Starts, Head}
 use Rattle.net.specs.First.{first_below}
@@ -26,10 +26,10 @@ head_fault (Some k) = Some (Head k)
 -- the first refusal that the lists meet, or none
 abbrev pub net_fault : Table → Option NetFault
 net_fault t =
-    cond (nat_lt (length t.starts) 2 || nat_lt 1025 (length t.starts)) (Some Stations)
-    (cond (nat_lt 4096 (length t.heads)) (Some Links)
-    (cond (misled t.starts (length t.heads)) (Some Starts)
-    (head_fault (first_below (stray (length t.starts - 1) t.heads) (length t.heads)))))
+    if nat_lt (length t.starts) 2 || nat_lt 1025 (length t.starts) then Some Stations
+    else if nat_lt 4096 (length t.heads) then Some Links
+    else if misled t.starts (length t.heads) then Some Starts
+    else head_fault (first_below (stray (length t.starts - 1) t.heads) (length t.heads))
 
 -- the answer of a test that refuses what is told
 abbrev pub judged : {E : Type 0} → Option E → Result (Unit {0}) E

@@ -1,5 +1,5 @@
 -- The table of links of a net, as a forward star: what its two lists hold, and what they mean.
-use Rattle.std.specs.Prelude.{◌≡◌, ℕ, ◌+◌, ◌-◌, ◌<◌, ◌≤◌, cond, ltb, List, length, Some, None, Option, nat_lt, slice_index, slice_index_or}
+use Rattle.std.specs.Prelude.{◌≡◌, ℕ, ◌+◌, ◌-◌, ◌<◌, ◌≤◌, if◌then◌else◌, List, length, Some, None, Option, nat_lt, slice_index}
 use Rattle.std.specs.Option.{unwrap_or}
 use Rattle.net.specs.First.{first_below}
 
@@ -27,14 +27,14 @@ head_at t l = slice_index t.heads l
 
 -- the station that link l leaves: the first whose links end after it
 unfoldable pub tail_at : Table → ℕ → ℕ
-tail_at t l = unwrap_or (first_below (λ s. ltb l (first_link t (s + 1))) (station_count t)) 0
+tail_at t l = unwrap_or (first_below (λ s. nat_lt l (first_link t (s + 1))) (station_count t)) 0
 
 -- the head and the tail of link l, or none where there is no such link
 abbrev pub head_of : Table → ℕ → Option ℕ
-head_of t l = cond (nat_lt l (link_count t)) (Some (head_at t l)) None
+head_of t l = if nat_lt l (link_count t) then Some (head_at t l) else None
 
 abbrev pub tail_of : Table → ℕ → Option ℕ
-tail_of t l = cond (nat_lt l (link_count t)) (Some (tail_at t l)) None
+tail_of t l = if nat_lt l (link_count t) then Some (tail_at t l) else None
 
 -- link l is one of station s's
 pub record Leaves (t : Table) (l s : ℕ) : Type 0 where
@@ -55,7 +55,7 @@ pub record ForwardStar (t : Table) : Type 0 where
   pub some : 2 ≤ length t.starts
   pub few : length t.starts ≤ 1025
   pub light : length t.heads ≤ 4096
-  pub first : slice_index_or t.starts 0 0 ≡ 0
+  pub first : slice_index t.starts 0 ≡ 0
   pub rising : Rising t.starts
-  pub last : slice_index_or t.starts (length t.starts - 1) 0 ≡ length t.heads
+  pub last : slice_index t.starts (length t.starts - 1) ≡ length t.heads
   pub within : Within t.starts t.heads

@@ -9,15 +9,9 @@ use refusals::net::NetFault;
 
 // Whether some start is above the next.
 fn falling(starts: &[u16]) -> bool
-    requires { 1 ≤ length starts.now }
     ensures { result ≡ is_some (first_below (falls starts.now) (length starts.now - 1)) }
 {
-    for k in 0..starts.len() - 1 {
-        if starts[k + 1] < starts[k] {
-            return true;
-        }
-    }
-    false
+    !starts.is_sorted()
 }
 
 // Whether the starts do not begin at 0, fall, or do not end at the number of links.
@@ -25,7 +19,7 @@ fn off_course(starts: &[u16], links: usize) -> bool
     requires { 1 ≤ length starts.now }
     ensures { result ≡ misled starts.now links }
 {
-    starts[0] != 0 || falling(starts) || starts[starts.len() - 1] as usize != links
+    starts[0] != 0 || falling(starts) || usize::from(starts[starts.len() - 1]) != links
 }
 
 // The first link whose head is no station.
@@ -33,12 +27,8 @@ fn first_stray(stations: usize, heads: &[u16]) -> Option<u16>
     requires { length heads.now ≤ 4096 }
     ensures { result ≡ first_below (stray stations heads.now) (length heads.now) }
 {
-    for (l, head) in heads.iter().enumerate() {
-        if *head as usize >= stations {
-            return Some(l as u16);
-        }
-    }
-    None
+    let l = heads.iter().position(|head| usize::from(*head) >= stations)?;
+    Some(l as u16)
 }
 
 // Why two lists are no net.

@@ -36,17 +36,15 @@ impl<'a> Net<'a> {
     pub fn head(&self, link: u16) -> Option<u16>
         ensures { result ≡ head_of (table_of self.now) link }
     {
-        self.heads.get(link as usize).copied()
+        self.heads.get(usize::from(link)).copied()
     }
 
     // The links that leave a station, or none where there is no such station.
     pub fn links_of(&self, station: u16) -> Option<Range<u16>>
         ensures { MatchOption result (station_count (table_of self.now) ≤ station) (λ x. (station + 1 ≤ station_count (table_of self.now)) × (x.start ≡ first_link (table_of self.now) station) × (x.end ≡ first_link (table_of self.now) (station + 1))) }
     {
-        if station >= self.stations() {
-            return None;
-        }
-        let at = station as usize;
-        Some(self.starts[at]..self.starts[at + 1])
+        let at = usize::from(station);
+        let end = *self.starts.get(at + 1)?;
+        Some(self.starts[at]..end)
     }
 }

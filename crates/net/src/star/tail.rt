@@ -12,12 +12,7 @@ impl Net<'_> {
         ensures lies { Leaves (table_of self.now) link result }
         ensures is { result ≡ tail_at (table_of self.now) link }
     {
-        for t in 0..self.stations() {
-            if link < self.starts[t as usize + 1] {
-                return t;
-            }
-        }
-        unreachable()
+        self.starts[1..].partition_point(|start| *start <= link) as u16
     }
 
     // The station that a link leaves, or none where there is no such link.

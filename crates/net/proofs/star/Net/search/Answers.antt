@@ -1,10 +1,12 @@
-use Rattle.std.proofs.Common.{sym, rules}
-use Rattle.net.specs.Table.{Leaves}
-use Rattle.net.specs.View.{table_of}
-use Rattle.net.proofs.Tails.{tail-is, star_of}
+use Rattle.std.proofs.Common.{sym, leb, rules}
+use Rattle.std.proofs.lemmas.List.Sorted.{IsPartitionPoint-from_clause}
+use Rattle.net.proofs.Tails.{star_of, ends-parted, ends-found, tail-is}
 use Rattle.net.proofs.star.Net.search.Goals as goal
 
-pub returns-then-link-self : goal.returns-then-link-self
-returns-then-link-self c =
-    let w : Leaves (table_of c.args.self.now) c.args.link c.loop-t.t = search rules in
-    record { lies = w; is = sym (tail-is (star_of c.args.self.now) _ _ w) }
+pub returns : goal.returns
+returns c =
+    let n = c.args.self.now in
+    let p = c.partition_point.ensures in
+    let point = IsPartitionPoint-from_clause (λ y. leb y c.args.link) _ _ p.partitioned (ends-parted n.starts.now n.rising c.args.link) (λ a r q k. search rules) in
+    let w = ends-found (star_of n) _ _ c.requires p.bound point in
+    record { lies = w; is = sym (tail-is (star_of n) _ _ w) }
