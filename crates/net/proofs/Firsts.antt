@@ -1,14 +1,8 @@
 -- When `first_below` answers what, and what its answer says.
 use Rattle.std.proofs.Common.{◌≡◌, ℕ, zero, suc, ◌<◌, Bool, true, false, ◌⊎◌, Some, None, refl, inl, inr, arith}
 use Rattle.std.proofs.lemmas.Bool.{cases_lt, cases_Bool}
+use borrow.Author.Count.{below_more}
 use Rattle.net.specs.First.{first_below}
-
-below_suc : (p : ℕ → Bool) (n : ℕ) → ((k : ℕ) → k < n → p k ≡ false) → p n ≡ false → (k : ℕ) → k < suc n → p k ≡ false
-below_suc p n h f k l =
-    elim (cases_lt k n) [
-      | inl m ↦ h k m
-      | inr m ↦ let e : k ≡ n = omega arith in rw e f
-    ]
 
 -- none passes: the answer is none
 pub none_is : (p : ℕ → Bool) (n : ℕ) → ((k : ℕ) → k < n → p k ≡ false) → first_below p n ≡ None
@@ -38,7 +32,7 @@ first-tells p (suc n) =
       | inl (h, e) ↦
           elim (cases_Bool (p n)) [
             | inl t ↦ inr (n, omega arith, t, h, rw (e, t))
-            | inr f ↦ inl (below_suc p n h f, rw (e, f))
+            | inr f ↦ inl (λ k l. below_more (λ j. p j ≡ false) n h f k (omega arith), rw (e, f))
           ]
     ]
 
@@ -47,5 +41,5 @@ pub none-says : (p : ℕ → Bool) (n : ℕ) → first_below p n ≡ None → (k
 none-says p n e =
     elim (first-tells p n) [
       | inl (h, _) ↦ h
-      | inr (k, l, t, h, d) ↦ let z : ◌≡◌ {A = ℕ} 0 1 = cc in absurd (omega arith)
+      | inr (k, l, t, h, d) ↦ absurd cc
     ]

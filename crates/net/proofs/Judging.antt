@@ -11,19 +11,19 @@ use Rattle.net.proofs.Firsts.{none-says, none_is, first-is, first-tells}
 
 -- a refusal that did not come: its test failed, and what stands after it did not come either
 cond-none : {E : Type 0} (b : Bool) (x : E) (o : Option E) → cond b (Some x) o ≡ None → (b ≡ false) × (o ≡ None)
-cond-none true x o e = let z : ◌≡◌ {A = ℕ} 0 1 = cc in absurd (omega arith)
+cond-none true x o e = absurd cc
 cond-none false x o e = (refl, e)
 
 is_some-false : (o : Option ℕ) → is_some o ≡ false → o ≡ None
-is_some-false (Some k) e = let z : ◌≡◌ {A = ℕ} 0 1 = cc in absurd (omega arith)
+is_some-false (Some k) e = absurd cc
 is_some-false None e = refl
 
 head_fault-none : (o : Option ℕ) → head_fault o ≡ None → o ≡ None
-head_fault-none (Some k) e = let z : ◌≡◌ {A = ℕ} 0 1 = cc in absurd (omega arith)
+head_fault-none (Some k) e = absurd cc
 head_fault-none None e = refl
 
 pub judged-ok : {E : Type 0} (o : Option E) (u : Unit {0}) → Ok u ≡ judged o → o ≡ None
-judged-ok (Some k) u e = let z : ◌≡◌ {A = ℕ} 0 1 = cc in absurd (omega arith)
+judged-ok (Some k) u e = absurd cc
 judged-ok None u e = refl
 
 pub unrefused-star : (t : Table) → net_fault t ≡ None → ForwardStar t
@@ -68,7 +68,7 @@ pub judged-star : (t : Table) (r : Result (Unit {0}) NetFault) → r ≡ judged 
 judged-star t (Ok u) e = unrefused-star t (judged-ok _ u e)
 judged-star t (Err y) e = λ w.
     let n : judged (net_fault t) ≡ Ok tt = rw (star-unrefused t w) in
-    let z : ◌≡◌ {A = ℕ} 0 1 = cc in absurd (omega arith)
+    absurd cc
 
 -- what `is_sorted` answers says whether some start is above the next
 pub falls-sorted : (s : List ℕ) (r : Bool)

@@ -1,7 +1,8 @@
 -- Where a link lies among the starts: each link leaves exactly one station.
-use Rattle.std.specs.List.Sorted.{IsPartitionedBy, IsPartitionPoint}
+use Rattle.std.specs.List.Sorted.{IsNonDecreasing, IsPartitionedBy, IsPartitionPoint}
 use Rattle.std.proofs.lemmas.List.{get_or-take, get_or-drop, length-take, length-drop}
-use Rattle.std.proofs.lemmas.List.Sorted.{IsPartitionedBy-leb, IsNonDecreasingBy-take, IsNonDecreasingBy-drop, IsNonDecreasingBy-from_default}
+use Rattle.std.proofs.lemmas.List.Sorted.{IsPartitionedBy-leb, IsNonDecreasingBy-take, IsNonDecreasingBy-drop, IsNonDecreasingBy-from_all_adjacent}
+use Rattle.std.proofs.lemmas.Grind.{get_or_default_zero}
 use Rattle.std.proofs.Common.{◌≡◌, ℕ, zero, suc, ◌+◌, ◌-◌, ◌<◌, ◌≤◌, ap, ◌∙◌, true, false, take, drop, leb, eqb, ltb, List, length, get_or, subst, inl, inr, add-one, arith}
 use Rattle.std.proofs.lemmas.Bool.{cases_lt, lt-ltb, le-ltb, ltb-true, ltb-false, leb-true, leb-false, ne_eqb}
 use Rattle.net.specs.Table.{Table, Rising, ForwardStar, Leaves, station_count, link_count, first_link, head_at, tail_at}
@@ -10,14 +11,10 @@ use Rattle.net.specs.declared.star.Net.{Net}
 use Rattle.net.proofs.Firsts.{first-is, first-tells}
 
 -- starts that rise from one to the next rise over any stretch
-pub rises : (s : List ℕ) → Rising s → (i j : ℕ) → i ≤ j → j < length s → get_or s i 0 ≤ get_or s j 0
-rises s r i zero le lt = let e : i ≡ 0 = omega arith in rw e (omega arith)
-rises s r i (suc j) le lt =
-    elim (cases_lt i (suc j)) [
-      | inl m ↦ let a = rises s r i j (omega arith) (omega arith) in
-          let b : get_or s j 0 ≤ get_or s (suc j) 0 = rw add-one at (r j (omega arith)) in omega arith
-      | inr m ↦ let e : i ≡ suc j = omega arith in rw e (omega arith)
-    ]
+rises : (s : List ℕ) → Rising s → IsNonDecreasing s
+rises s r =
+    IsNonDecreasingBy-from_all_adjacent (λ x. x) s
+    (λ k d h. omega (arith, get_or_default_zero s k d (omega arith), get_or_default_zero s (k + 1) d h, r k h))
 
 -- all starts but the first, as the code cuts them out
 abbrev pub ends : List ℕ → List ℕ
@@ -30,7 +27,7 @@ ends-at s k h = get_or-take _ (drop 1 s) k 0 h ∙ get_or-drop 1 s k 0 ∙ ap (�
 pub ends-parted : (s : List ℕ) → Rising s → (l : ℕ) → IsPartitionedBy (λ y. leb y l) (ends s)
 ends-parted s r l =
     IsPartitionedBy-leb (λ y. y) (ends s) l
-    (IsNonDecreasingBy-take (λ y. y) _ _ (IsNonDecreasingBy-drop (λ y. y) 1 s (IsNonDecreasingBy-from_default (λ y. y) s 0 (rises s r))))
+    (IsNonDecreasingBy-take (λ y. y) _ _ (IsNonDecreasingBy-drop (λ y. y) 1 s (rises s r)))
 
 -- a net's invariant as one fact
 pub star_of : (n : Net) → ForwardStar (table_of n)
@@ -42,7 +39,7 @@ module _ {t : Table} (star : ForwardStar t) where
   unfolding tail_at
   tail-is l s w =
       rw (first-is (λ k. ltb l (first_link t (k + 1))) (station_count t) s w.station (lt-ltb _ _ w.to)
-      (λ j h. le-ltb l (first_link t (j + 1)) (omega (arith, w.from, rises t.starts star.rising (j + 1) s (omega arith) (omega (arith, w.station))))))
+      (λ j h. le-ltb l (first_link t (j + 1)) (omega (arith, w.from, rises t.starts star.rising (j + 1) s 0 (omega arith) (omega (arith, w.station))))))
 
   -- a link that is none of the stations' before k lies behind their ends
   past : (l k : ℕ) → k < station_count t → ((j : ℕ) → j < k → first_link t (j + 1) ≤ l) → first_link t k ≤ l
@@ -61,6 +58,7 @@ module _ {t : Table} (star : ForwardStar t) where
         | inr (k, below, test, before, e) ↦
             rw e (record { station = below; from = past l k below (λ j m. ltb-false _ _ (before j m)); to = ltb-true _ _ test })
       ]
+
   -- and what it finds is the station that has the link
   pub ends-found : (l i : ℕ) → l < link_count t → i ≤ length (ends t.starts)
       → IsPartitionPoint (λ y. leb y l ≡ true) (λ y. leb y l ≡ false) (ends t.starts) i → Leaves t l i
@@ -79,6 +77,7 @@ module _ {t : Table} (star : ForwardStar t) where
         from = past l i below at_most;
         to = omega (arith, ends-at s i below, leb-false _ _ (high i 0 (omega arith) (omega (arith, length-take (length s - 1) (drop 1 s), length-drop 1 s))));
       }
+
   -- a link that is not one of station s's has another tail
   pub tail-not : (l s : ℕ) → l < link_count t → (Leaves t l s → ⊥) → eqb (tail_at t l) s ≡ false
   tail-not l s h other = ne_eqb _ _ (λ e. other (subst (λ x. Leaves t l x) e (tail-leaves l h)))

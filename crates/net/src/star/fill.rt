@@ -27,7 +27,9 @@ fn first_stray(stations: usize, heads: &[u16]) -> Option<u16>
     requires { length heads.now ≤ 4096 }
     ensures { result ≡ first_below (stray stations heads.now) (length heads.now) }
 {
-    let l = heads.iter().position(|head| usize::from(*head) >= stations)?;
+    let l = heads
+        .iter()
+        .position(|head| usize::from(*head) >= stations)?;
     Some(l as u16)
 }
 
