@@ -1,5 +1,5 @@
 -- Going along a list of links: where it breaks off, and that it is a path where it does not.
-use Rattle.std.proofs.Common.{◌≡◌, ℕ, ◌+◌, ◌<◌, ◌≤◌, true, false, eqb, List, [], ◌∷◌, length, get_or, drop, Some, None, fold, refl, ap, ◌∙◌, subst, inl, inr, arith}
+use Rattle.std.proofs.Common.{◌≡◌, ℕ, ◌+◌, ◌<◌, ◌≤◌, true, false, eqb, List, [], ◌∷◌, length, get_or, drop, Some, None, fold, refl, ap, ◌∙◌, subst, inl, inr}
 use Rattle.std.proofs.lemmas.List.{drop_more, drop_all}
 use Rattle.std.proofs.lemmas.Option.{slice_get_read}
 use Rattle.kinds.specs.declared.kind.Kind.{Ghosts}
@@ -19,9 +19,9 @@ module _ {t : Table} (star : ForwardStar t) where
   unbroken-path [] i a h e = (a, (h, refl))
   unbroken-path (l ∷ p) i a h e =
       elim (cases_lt l (link_count t)) [
-        | inr m ↦ let f = rw (le-ltb l (link_count t) m) at e in let z : ◌≡◌ {A = ℕ} 0 1 = cc in absurd (omega arith)
+        | inr m ↦ let f = rw (le-ltb l (link_count t) m) at e in absurd cc
         | inl m ↦ elim (cases_eq (tail_at t l) a) [
-          | inr d ↦ let f = rw (lt-ltb l (link_count t) m, ne_eqb (tail_at t l) a d) at e in let z : ◌≡◌ {A = ℕ} 0 1 = cc in absurd (omega arith)
+          | inr d ↦ let f = rw (lt-ltb l (link_count t) m, ne_eqb (tail_at t l) a d) at e in absurd cc
           | inl d ↦
               let f : breaks t (i + 1) (head_at t l) p ≡ None = rw (lt-ltb l (link_count t) m, eq-eqb (tail_at t l) a d) at e in
               let r = unbroken-path p (i + 1) (head_at t l) (lands star l m) f in
@@ -45,7 +45,7 @@ module _ {t : Table} (star : ForwardStar t) where
   refused-no-path count a p e told n (b, h) =
       let f : not_path t count a p ≡ None =
       rw (eq-eqb count (link_count t) n, lt-ltb a (station_count t) (path-begins p a b h)) (path-unbroken p 0 a b h) in
-      let z : ◌≡◌ {A = ℕ} 0 1 = cc in omega arith
+      cc
 
   -- with one grade per link and a station to begin at, the reason is where the list breaks off
   pub refused-broken : (count a : ℕ) (p : List ℕ) {e : NotPath} → count ≡ link_count t → a < station_count t → breaks t 0 a p ≡ Some e

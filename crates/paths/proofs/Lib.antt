@@ -1,3 +1,4 @@
+pub mod Options
 pub mod Members
 pub mod Turned
 pub mod Passing

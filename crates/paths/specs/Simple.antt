@@ -1,5 +1,5 @@
 -- Simple paths, and the list of all of them.
-use Rattle.std.specs.Prelude.{ℕ, zero, suc, ◌<◌, Bool, true, cond, not, ◌&&◌, ◌||◌, List, [], ◌∷◌, ◌++◌, map, reverse, length, ◌==◌}
+use Rattle.std.specs.Prelude.{ℕ, zero, suc, ◌<◌, Bool, true, if◌then◌else◌, not, ◌&&◌, ◌||◌, List, [], ◌∷◌, ◌++◌, map, reverse, length, ◌==◌}
 use Rattle.net.specs.Table.{Table, station_count, link_count, head_at, tail_at}
 use Rattle.paths.specs.Lists.{In, NoDup}
 use Rattle.paths.specs.Path.{Leads, stations_on}
@@ -27,7 +27,7 @@ simple t (l ∷ p) v = head_at t l == v && (not (meets t v p (tail_at t l)) && s
 -- the simple paths that lengthen p by one link of those below k
 abbrev pub grow : Table → ℕ → List ℕ → List (List ℕ)
 grow t zero p = []
-grow t (suc l) p = cond (simple t (l ∷ p) (head_at t l)) ((l ∷ p) ∷ grow t l p) (grow t l p)
+grow t (suc l) p = if simple t (l ∷ p) (head_at t l) then (l ∷ p) ∷ grow t l p else grow t l p
 
 abbrev pub grow_all : Table → List (List ℕ) → List (List ℕ)
 grow_all t [] = []

@@ -42,9 +42,7 @@ pub fn grade_path<K: Kind>(
     let mut at = from;
     let mut label = K::start();
     for (i, link) in way.iter().enumerate() {
-        let Some(head) = net.head(*link) else {
-            return Err(NotPath::NoLink(i));
-        };
+        let head = net.head(*link).ok_or(NotPath::NoLink(i))?;
         if !leaves(net, *link, at) {
             return Err(NotPath::Parted(i));
         }

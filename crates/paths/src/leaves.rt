@@ -10,8 +10,5 @@ pub(crate) fn leaves(net: &Net, link: u16, station: u16) -> bool
     requires { link < link_count (table_of net.now) }
     ensures { result ≡ (tail_at (table_of net.now) link == station) }
 {
-    match net.links_of(station) {
-        Some(own) => own.start <= link && link < own.end,
-        None => false,
-    }
+    net.links_of(station).is_some_and(|own| own.contains(&link))
 }

@@ -1,5 +1,5 @@
 // Simple paths.
-ghost use Rattle.std.specs.Prelude.{◌<◌, length, Decides, MatchOption, slice_index};
+ghost use Rattle.std.specs.Prelude.{◌<◌, ◌↔◌, length, IsTrue, MatchOption, slice_index};
 ghost use Rattle.net.specs.Table.{Leaves};
 ghost use Rattle.net.specs.View.{table_of};
 ghost use Rattle.paths.specs.Simple.{Simple, Listed};
@@ -13,16 +13,13 @@ fn beginning(net: &Net, way: &[u16]) -> Option<u16>
     ensures begins { MatchOption result (Simple (table_of net.now) way.now → ⊥) (λ a. (0 < length way.now) × Leaves (table_of net.now) (slice_index way.now 0) a) }
     ensures listed { Listed (table_of net.now) }
 {
-    let Some(first) = way.first() else {
-        return None;
-    };
-    net.tail(*first)
+    net.tail(*way.first()?)
 }
 
 // Whether the way leads on from there, each link to a station that it has not met.
 fn leads_on(net: &Net, way: &[u16], from: u16) -> bool
     requires { (0 < length way.now) × (Leaves (table_of net.now) (slice_index way.now 0) from) }
-    ensures { Decides result (Simple (table_of net.now) way.now) }
+    ensures { IsTrue result ↔ (Simple (table_of net.now) way.now) }
 {
     let mut met = [false; 1024];
     met[from as usize] = true;
@@ -42,9 +39,10 @@ fn leads_on(net: &Net, way: &[u16], from: u16) -> bool
 
 // Whether a list of links is a simple path: at least one link, and no station twice. It may begin at any station.
 pub fn is_simple(net: &Net, way: &[u16]) -> bool
-    ensures simple { Decides result (Simple (table_of net.now) way.now) }
+    ensures simple { IsTrue result ↔ (Simple (table_of net.now) way.now) }
     ensures listed { Listed (table_of net.now) }
 {
+    // A `match`: a closure for `is_some_and` would have to repeat the contract of `leads_on`.
     match beginning(net, way) {
         Some(from) => leads_on(net, way, from),
         None => false,
