@@ -1,7 +1,9 @@
 -- Members of lists, and lists without repeats.
-use Rattle.std.proofs.Common.{◌≡◌, ℕ, zero, suc, ◌<◌, ◌≤◌, ◌⊎◌, List, [], ◌∷◌, ◌++◌, map, reverse, length, sym, refl, ap, ◌∙◌, subst, inl, inr, ⊎_elim, arith}
+use Rattle.std.proofs.Common.{true, false, eqb, ◌≡◌, ℕ, ◌<◌, ◌≤◌, ◌⊎◌, List, [], ◌∷◌, ◌++◌, map, reverse, length, sym, refl, ap, subst, inl, inr, ⊎_elim}
 use mathlib.Core.List.{reverse_aux}
-use Rattle.std.proofs.lemmas.Bool.{cases_eq}
+use Rattle.std.proofs.lemmas.Bool.{ne_eqb, or_cases, eqb-true}
+use Rattle.std.proofs.lemmas.Map.Steps.{length-le_from_distinct_below}
+use Rattle.std.specs.List.{AllByRecursion, IsDistinct, list_any}
 use Rattle.paths.specs.Lists.{In, NoDup}
 
 module _ {A : Type 0} where
@@ -37,33 +39,6 @@ module _ {A : Type 0} where
   pub nodup_reverse : (xs : List A) → NoDup xs → NoDup (reverse xs)
   nodup_reverse xs d = nodup-onto xs [] d tt (λ z i j. j)
 
-  -- the list without the place at which x stands
-  abbrev out : (x : A) (ys : List A) → In x ys → List A
-  out x [] m = elim m [ ]
-  out x (y ∷ ys) (inl e) = ys
-  out x (y ∷ ys) (inr m) = y ∷ out x ys m
-
-  length-out : (x : A) (ys : List A) (m : In x ys) → length ys ≡ suc (length (out x ys m))
-  length-out x [] m = elim m [ ]
-  length-out x (y ∷ ys) (inl e) = refl
-  length-out x (y ∷ ys) (inr m) = ap suc (length-out x ys m)
-
-  in-out : (x z : A) (ys : List A) (m : In x ys) → In z ys → (z ≡ x → ⊥) → In z (out x ys m)
-  in-out x z [] m i ne = elim m [ ]
-  in-out x z (y ∷ ys) (inl e) (inl f) ne = absurd (ne (f ∙ sym e))
-  in-out x z (y ∷ ys) (inl e) (inr i) ne = i
-  in-out x z (y ∷ ys) (inr m) (inl f) ne = inl f
-  in-out x z (y ∷ ys) (inr m) (inr i) ne = inr (in-out x z ys m i ne)
-
-  -- a list without repeats is no longer than one that has all its members
-  pigeons : (xs ys : List A) → NoDup xs → ((z : A) → In z xs → In z ys) → length xs ≤ length ys
-  pigeons [] ys d h = omega arith
-  pigeons (x ∷ xs) ys d h =
-      let m = h x (inl refl) in
-      let left : (z : A) → In z xs → In z (out x ys m) =
-      λ z i. in-out x z ys m (h z (inr i)) (λ e. d.0 (subst (λ w. In w xs) e i)) in
-      omega (arith, pigeons xs (out x ys m) d.1 left, length-out x ys m)
-
 -- members of a list mapped
 module _ {A B : Type 0} (f : A → B) where
   pub in_map : (x : A) (xs : List A) → In x xs → In (f x) (map f xs)
@@ -83,19 +58,20 @@ module _ {A B : Type 0} (f : A → B) where
     nodup-map inj xs d.1,
   )
 
--- the numbers below n
-abbrev below : ℕ → List ℕ
-below zero = []
-below (suc n) = n ∷ below n
+-- the same of numbers, in the library's words
+apart : (x : ℕ) (ys : List ℕ) → (In x ys → ⊥) → AllByRecursion (λ y. eqb x y ≡ false) ys
+apart x [] out = tt
+apart x (y ∷ ys) out = (ne_eqb x y (λ e. out (inl e)), apart x ys (λ i. out (inr i)))
 
-length-below : (n : ℕ) → length (below n) ≡ n
-length-below zero = refl
-length-below (suc n) = ap suc (length-below n)
+distinct : (xs : List ℕ) → NoDup xs → IsDistinct eqb xs
+unfolding IsDistinct
+distinct [] d = tt
+distinct (x ∷ xs) d = (apart x xs d.0, distinct xs d.1)
 
-in-below : (n x : ℕ) → x < n → In x (below n)
-in-below zero x h = absurd (omega arith)
-in-below (suc n) x h = elim (cases_eq x n) [ inl e ↦ inl e | inr d ↦ inr (in-below n x (omega arith)) ]
+any-in : (x : ℕ) (ys : List ℕ) → list_any (eqb x) ys ≡ true → In x ys
+any-in x [] e = absurd cc
+any-in x (y ∷ ys) e = elim (or_cases (eqb x y) _ e) [ inl f ↦ inl (eqb-true x y f) | inr f ↦ inr (any-in x ys f) ]
 
 -- a list of different numbers below n is no longer than n
 pub few-below : (n : ℕ) (xs : List ℕ) → NoDup xs → ((x : ℕ) → In x xs → x < n) → length xs ≤ n
-few-below n xs d h = omega (arith, pigeons xs (below n) d (λ x i. in-below n x (h x i)), length-below n)
+few-below n xs d h = length-le_from_distinct_below xs n (distinct xs d) (λ x e. h x (any-in x xs e))

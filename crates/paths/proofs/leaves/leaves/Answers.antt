@@ -27,6 +27,6 @@ returns c =
     c.links_of.result c.links_of.ensures c.is_some_and.ensures
     (λ none f. f ∙ sym (tail-not star _ _ c.requires (λ w. omega (arith, w.station))))
     (λ own at p.
-      let e : c.is_some_and.result ≡ (leb own.start c.args.link && ltb c.args.link own.end) = search (rules, tests) in
-      let k = in-range star c.args.link c.args.station c.requires (omega arith) in
-      e ∙ rw (at.1, at.2) k)
+    let e : c.is_some_and.result ≡ (leb own.start c.args.link && ltb c.args.link own.end) = search (rules, tests) in
+    let k = in-range star c.args.link c.args.station c.requires (omega arith) in
+    e ∙ rw (at.1, at.2) k)
