@@ -46,15 +46,9 @@ fn kinds_carry(rt: HostRuntime) {
 }
 
 #[test]
-fn large_chances(rt: HostRuntime) -> Result<(), Fail> {
+fn large_chances(rt: HostRuntime) {
     assert_eq!(rt; Chance::read(4294967295).parts(), 65536);
-    match Chance::new(65537) {
-        Ok(_) => Err(Fail::new("a chance above 65536 was made")),
-        Err(fault) => {
-            assert_eq!(rt; fault.number(), 13);
-            Ok(())
-        },
-    }
+    assert_eq!(rt; Chance::new(65537).map_err(|fault| fault.number()), Err(13));
 }
 
 #[test]
@@ -72,25 +66,15 @@ fn four_roofs(rt: HostRuntime) -> Result<(), Fail> {
     let starts = [0, 2, 3, 5, 5];
     let heads = [1, 2, 3, 1, 3];
     let mut net = Net::single();
-    assert!(rt; net.fill(&starts, &heads).is_ok());
+    net.fill(&starts, &heads)?;
     assert_eq!(rt; net.tail(3), Some(2));
     assert_eq!(rt; net.head(3), Some(1));
     assert!(rt; is_simple(&net, &[1, 3, 2]));
     assert!(rt; !is_simple(&net, &[]));
-    let grades = [
-        Airtime::new(4),
-        Airtime::new(1),
-        Airtime::new(1),
-        Airtime::new(2),
-        Airtime::new(5),
-    ];
-    match grade_path::<ByAirtime>(&net, &grades, 0, &[1, 3, 2]) {
-        Ok(label) => {
-            assert_eq!(rt; label.micros(), 4);
-            Ok(())
-        },
-        Err(_) => Err(Fail::new("no path")),
-    }
+    let grades = [4, 1, 1, 2, 5].map(Airtime::new);
+    let label = grade_path::<ByAirtime>(&net, &grades, 0, &[1, 3, 2])?;
+    assert_eq!(rt; label.micros(), 4);
+    Ok(())
 }
 
 #[test]
@@ -102,7 +86,7 @@ fn labels_written(rt: HostRuntime) -> Result<(), Fail> {
         Margin::new(-128),
     );
     let text = format!(in heap; "{time} {parts} {least}")?;
-    assert!(rt; text.as_str() == "4294967295 65536 -128");
+    assert_eq!(rt; text.as_str(), "4294967295 65536 -128");
     Ok(())
 }
 
@@ -111,24 +95,20 @@ fn enters() -> Result<(), ListFault> {
 }
 
 fn in_book() -> Result<(), BookFault> {
-    enters()?;
-    Ok(())
+    Ok(enters()?)
 }
 
 fn anywhere() -> Result<(), Refusal> {
-    in_book()?;
-    Ok(())
+    Ok(in_book()?)
 }
 
 #[test]
 fn refusals_wrapped(rt: HostRuntime) -> Result<(), Fail> {
-    match anywhere() {
-        Ok(()) => Err(Fail::new("not refused")),
-        Err(refusal) => {
-            assert_eq!(rt; refusal.number(), 14);
-            assert_eq!(rt; refusal.place(), 0);
-            assert_eq!(rt; refusal.layer(), Layer::List);
-            Ok(())
-        }
-    }
+    let Err(refusal) = anywhere() else {
+        return Err(Fail::new("not refused"));
+    };
+    assert_eq!(rt; refusal.number(), 14);
+    assert_eq!(rt; refusal.place(), 0);
+    assert_eq!(rt; refusal.layer(), Layer::List);
+    Ok(())
 }
