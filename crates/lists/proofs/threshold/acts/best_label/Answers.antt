@@ -5,11 +5,11 @@ use Rattle.lists.specs.Thresholds.{best_on}
 use Rattle.lists.specs.Bests.{best-stops, best-more}
 use Rattle.lists.proofs.threshold.acts.best_label.Goals as goal
 
-pub returns-in-None : goal.returns-in-None
-returns-in-None g c =
+pub returns-in_err-label : goal.returns-in_err-label
+returns-in_err-label g c =
     let line = line_of c.args.queue.now in
     let within : c.loop-i.i < length line = omega (arith, c.loop-i-test.true, c.len-i-end.ensures.many) in
-    sym (best-stops g.K.Kind c.args.labels.now c.loop-i.best line c.loop-i.i c.at.result within c.at.ensures (sym c.handed.ensures ∙ c.in-None.is)) ∙ c.loop-i.invariant
+    c.from_residual.ensures ∙ sym (best-stops g.K.Kind c.args.labels.now c.loop-i.best line c.loop-i.i c.index.result within (c.index.ensures ∙ c.at.ensures) (sym c.handed.ensures ∙ c.in_err-label.was)) ∙ c.loop-i.invariant
 
 pub loop-i-preserved : goal.loop-i-preserved
 loop-i-preserved g c =
@@ -18,7 +18,7 @@ loop-i-preserved g c =
     let i = c.loop-i.i in
     let within : i < length line = omega (arith, c.loop-i-test.true, c.len-i-end.ensures.many) in
     ap (λ b. best_on g.K.Kind ls (Some b) (drop (i + 1) line)) c.better_of.ensures
-    ∙ sym (best-more g.K.Kind ls c.loop-i.best line i c.at.result within c.at.ensures c.in-Some.a (sym c.handed.ensures ∙ c.in-Some.is)) ∙ c.loop-i.invariant
+    ∙ sym (best-more g.K.Kind ls c.loop-i.best line i c.index.result within (c.index.ensures ∙ c.at.ensures) c.in_ok-label.label (sym c.handed.ensures ∙ c.in_ok-label.was)) ∙ c.loop-i.invariant
 
 pub returns : goal.returns
 returns g c =
