@@ -1,5 +1,5 @@
 -- What pushing to a queue and taking its top make of its line, its marks and its invariants.
-use Rattle.std.proofs.Common.{◌≡◌, ℕ, ◌+◌, ◌-◌, ◌%◌, ◌<◌, true, false, not, ◌&&◌, ◌==◌, [], ◌∷◌, ◌++◌, length, map, slice_index, slice_index_or, set, sym, refl, ap, ◌∙◌, add-one, arith}
+use Rattle.std.proofs.Common.{◌≡◌, ℕ, ◌+◌, ◌-◌, ◌%◌, ◌<◌, true, false, not, ◌&&◌, ◌==◌, [], ◌∷◌, ◌++◌, length, slice_index, slice_index_or, set, sym, refl, ap, ◌∙◌, add-one, arith}
 use Rattle.std.proofs.lemmas.List.{length-map, map-set, get_or-map}
 use Rattle.lists.specs.Stations.{holds, proper}
 use Rattle.lists.specs.Ring.{ring_from, numbers_of}
