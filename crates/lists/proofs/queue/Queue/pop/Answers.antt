@@ -1,6 +1,5 @@
-use Rattle.std.proofs.Common.{◌<◌, false, set, slice_index_or, sym, ap, ◌∙◌, arith, length-set}
-use Rattle.lists.specs.Stations.{top_of, rest_of}
-use Rattle.lists.proofs.Queues.{pop-line, pop-once, pop-marks}
+use Rattle.std.proofs.Common.{◌<◌, false, set, slice_index_or, ap, ◌∙◌, arith, length-set}
+use Rattle.lists.proofs.Queues.{pop-once, pop-marks}
 use Rattle.lists.proofs.queue.Queue.pop.Goals as goal
 
 pub invariant_of-self : goal.invariant_of-self
@@ -13,8 +12,3 @@ invariant_of-self c =
       once = pop-once q some d;
       marks = λ k l. ap (λ n. slice_index_or (set q.held n false) k false) c.index.ensures ∙ pop-marks q some d k l;
     }
-
-pub returns : goal.returns
-returns c =
-    let line = pop-line c.args.self.now (omega (arith, c.if-self-eq0.false)) c.index-self-self.result in
-    record { answer = sym (ap top_of line); after = sym (ap rest_of line) }
