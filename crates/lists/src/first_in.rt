@@ -13,6 +13,7 @@ use kinds::kind::Kind;
 use refusals::list::ListFault;
 
 // A station enters at the bottom and is picked from the top.
+// It stands apart from the small-label and two-ended lists: a trait for their rules would be longer than the calls that they share.
 #[derive(Drop)]
 pub struct FirstIn {
     queue: Queue,
