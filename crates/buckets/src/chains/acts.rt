@@ -10,7 +10,7 @@ use super::Chains;
 use crate::node::Node;
 use lists::station::Station;
 
-// Nodes of which each end is tied to itself.
+// Nodes of which each end is tied to itself. The number of an end is what is written, and not only where.
 fn empty_nodes() -> [Node; 1088]
     ensures wide { length result ≡ 1088 }
     ensures next { (k : ℕ) → 1024 ≤ k → k < 1088 → slice_index (nexts result) k ≡ k }
@@ -18,7 +18,10 @@ fn empty_nodes() -> [Node; 1088]
 {
     let mut nodes = [Node { next: 0, prev: 0 }; 1088];
     for end in 1024..1088u16 {
-        nodes[end as usize] = Node { next: end, prev: end };
+        nodes[end as usize] = Node {
+            next: end,
+            prev: end,
+        };
     }
     nodes
 }
