@@ -5,13 +5,15 @@ use Rattle.std.proofs.lemmas.Bool.{cases_eq, eq-eqb, ne_eqb, or_from, or_left, c
 use Rattle.std.proofs.lemmas.Bool.Decides.{nat_tests}
 use Rattle.lists.specs.Meaning.{count_below}
 use Rattle.lists.specs.Stations.{holds, proper}
-use Rattle.buckets.specs.Links.{row}
+use Rattle.buckets.specs.Links.{row, queues}
+use Rattle.buckets.specs.Rows.{in_rows}
+use Rattle.lists.specs.declared.station.Station.{Station}
 use Rattle.buckets.specs.declared.chains.Chains.{Chains}
 use Rattle.lists.specs.Counts.{count-one}
 use Rattle.lists.specs.StationsLemmas.{holds-push, proper-push}
 use Rattle.buckets.specs.TiesLemmas.{Linked, differ, last-held, frame, extend}
-use Rattle.buckets.specs.LinksLemmas.{no_node, prev_at, end-out, links-many, backs-many, home-set, some-set, within-set, Settled, settled, known, node-below, nodes-apart}
-use Rattle.buckets.specs.Ties.{is_home}
+use Rattle.buckets.specs.LinksLemmas.{out-queues, no_node, prev_at, end-out, links-many, backs-many, home-set, some-set, within-set, Settled, settled, known, node-below, nodes-apart}
+use Rattle.buckets.specs.Ties.{row_of, is_home}
 use Rattle.buckets.specs.Nodes.{nexts, prevs}
 use Rattle.buckets.specs.declared.node.Node.{Node}
 use Rattle.std.specs.Option.{ForSome}
@@ -35,7 +37,14 @@ module _ (nodes : List Node) (i j k : ℕ) (m n o d : Node) where
   pub prevs-pushed : m.prev ≡ (slice_index_or nodes i d).prev → prevs (set (set (set nodes i m) j n) k o) ≡ set (set (prevs nodes) j n.prev) k o.prev
   prevs-pushed e = map-set (λ (n : Node). n.prev) _ k o ∙ ap (λ q. set q k o.prev) (map-set (λ (n : Node). n.prev) _ j n ∙ ap (λ q. set q j n.prev) (map-set_same (λ (n : Node). n.prev) nodes i m d e))
 
-module _ (s : Chains) (b x : ℕ) (bb : b < 64) (xb : x < 1024) (gone : (k : ℕ) → k < 64 → holds (row s k) x ≡ false) where
+-- the station n, of the number x, goes to the end of the chain b
+module _ (s : Chains) (b x : ℕ) (bb : b < 64) (n : Station) (is : x ≡ n.index) (out : in_rows (queues s) n.index ≡ false) where
+  xb : x < 1024
+  xb = omega (arith, is, n.small)
+
+  gone : (k : ℕ) → k < 64 → holds (row s k) x ≡ false
+  gone k l = ap (holds (row s k)) is ∙ out-queues s n.index out k l
+
   -- the nodes after the push
   abbrev last-of : ℕ
   last-of = (slice_index_or s.nodes (1024 + b) no_node).prev
@@ -124,6 +133,9 @@ module _ (s : Chains) (b x : ℕ) (bb : b < 64) (xb : x < 1024) (gone : (k : ℕ
       subst (λ ns. Settled ns (prevs nodes-pushed) (set s.home x (Some b)) (pushed s b x)) (sym nexts-are)
       (subst (λ ps. Settled (next-pushed s b x) ps (set s.home x (Some b)) (pushed s b x)) (sym prevs-are)
       (settled (next-pushed s b x) (prev-pushed s b x) (set s.home x (Some b)) (pushed s b x) push-ties push-once push-homes))
+
+  pub push-rows : (k : ℕ) → k < 64 → row_of (nexts nodes-pushed) k ≡ pushed s b n.index k
+  push-rows k l = push-settled.are k l ∙ ap (λ y. pushed s b y k) is
 
   push-out : (o : Option ℕ) → slice_index_or s.home x None ≡ o → is_some o ≡ false
   push-out None e = refl

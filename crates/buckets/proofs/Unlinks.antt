@@ -7,11 +7,12 @@ use Rattle.lists.specs.Meaning.{count_below}
 use Rattle.lists.specs.Stations.{holds, proper}
 use Rattle.buckets.specs.Rows.{without, in_rows}
 use Rattle.buckets.specs.Links.{row, queues}
+use Rattle.lists.specs.declared.station.Station.{Station}
 use Rattle.buckets.specs.declared.chains.Chains.{Chains}
 use Rattle.lists.specs.Counts.{count-one}
 use Rattle.buckets.specs.Without.{holds-without, proper-without, without-none}
 use Rattle.buckets.specs.TiesLemmas.{Linked, before-held, after-held, frame, skip}
-use Rattle.buckets.specs.Ties.{is_home}
+use Rattle.buckets.specs.Ties.{row_of, is_home}
 use Rattle.buckets.specs.Nodes.{nexts, prevs}
 use Rattle.buckets.specs.declared.node.Node.{Node}
 use Rattle.std.specs.Option.{ForSome}
@@ -36,7 +37,11 @@ some-is : (o : Option ℕ) → is_some o ≡ true → (b : ℕ) × (o ≡ Some b
 some-is None h = absurd (both_ways _ refl h)
 some-is (Some b) h = (b, refl)
 
-module _ (s : Chains) (x : ℕ) (held : in_rows (queues s) x ≡ true) where
+-- the station n, of the number x, leaves its chain
+module _ (s : Chains) (x : ℕ) (n : Station) (is : x ≡ n.index) (held-there : in_rows (queues s) n.index ≡ true) where
+  held : in_rows (queues s) x ≡ true
+  held = ap (in_rows (queues s)) is ∙ held-there
+
   -- the nodes after the unlink
   abbrev prev-of : ℕ
   prev-of = (slice_index_or s.nodes x no_node).prev
@@ -133,6 +138,9 @@ module _ (s : Chains) (x : ℕ) (held : in_rows (queues s) x ≡ true) where
       subst (λ ns. Settled ns (prevs nodes-less) (set s.home x None) (λ k. without x (row s k))) (sym nexts-are)
       (subst (λ ps. Settled (next-less s x) ps (set s.home x None) (λ k. without x (row s k))) (sym prevs-are)
       (settled (next-less s x) (prev-less s x) (set s.home x None) (λ k. without x (row s k)) unlink-ties unlink-once unlink-homes))
+
+  pub unlink-rows : (k : ℕ) → k < 64 → row_of (nexts nodes-less) k ≡ without n.index (row s k)
+  unlink-rows k l = unlink-settled.are k l ∙ ap (λ y. without y (row s k)) is
 
   pub unlink-counts : count_below (λ k. is_some (slice_index_or s.home k None)) 1024 ≡ count_below (λ k. is_some (slice_index_or (set s.home x None) k None)) 1024 + 1
   unlink-counts =
