@@ -1,5 +1,5 @@
 -- The bits of a word, and where its lowest set bit stands.
-use Rattle.std.proofs.Common.{◌≡◌, ℕ, zero, suc, ◌+◌, ◌-◌, ◌*◌, ◌/◌, ◌%◌, ◌^◌, ◌<◌, ◌≤◌, Bool, true, false, not, ◌&&◌, ◌||◌, eqb, Some, None, sym, refl, ap, ◌∙◌, ⊎_elim, lt_of_lt_of_le, pow-suc, one-add, arith, pow_mono}
+use Rattle.std.proofs.Common.{◌≡◌, ℕ, zero, suc, ◌+◌, ◌-◌, ◌*◌, ◌/◌, ◌%◌, ◌^◌, ◌<◌, ◌≤◌, Bool, true, false, not, ◌&&◌, ◌||◌, Some, None, sym, refl, ap, ◌∙◌, ⊎_elim, lt_of_lt_of_le, pow-suc, one-add, arith, pow_mono, ◌==◌}
 use native.Mathlib.Nat.{div-eq_of_lt}
 use lib.Bits.{bit_and, bit_or}
 use lib.Count.{count_trailing_zeros, under}
@@ -13,12 +13,12 @@ use Rattle.buckets.specs.FirstsLemmas.{found_up, found-round, found_none}
 
 pub bit-shr : (w a j : ℕ) → has_bit (w / 2 ^ a) j ≡ has_bit w (a + j)
 unfolding has_bit
-bit-shr w a j = ap (λ n. eqb (n % 2) 1) (shr-shr w a j)
+bit-shr w a j = ap (λ n. (n % 2 == 1)) (shr-shr w a j)
 
 -- the lowest bit, and the rest
-pub bit-zero : (w : ℕ) → has_bit w 0 ≡ eqb (w % 2) 1
+pub bit-zero : (w : ℕ) → has_bit w 0 ≡ (w % 2 == 1)
 unfolding has_bit
-bit-zero w = ap (λ n. eqb (n % 2) 1) (omega arith)
+bit-zero w = ap (λ n. (n % 2 == 1)) (omega arith)
 
 pub bit-suc : (w j : ℕ) → has_bit w (suc j) ≡ has_bit (w / 2) j
 bit-suc w j = ap (has_bit w) (sym (one-add j)) ∙ sym (bit-shr w 1 j)
@@ -26,7 +26,7 @@ bit-suc w j = ap (has_bit w) (sym (one-add j)) ∙ sym (bit-shr w 1 j)
 -- a word of n bits has none from n on
 pub bit_high : (w n k : ℕ) → w < 2 ^ n → n ≤ k → has_bit w k ≡ false
 unfolding has_bit
-bit_high w n k h l = ap (λ m. eqb (m % 2) 1) (div-eq_of_lt (lt_of_lt_of_le h (pow_mono l)))
+bit_high w n k h l = ap (λ m. (m % 2 == 1)) (div-eq_of_lt (lt_of_lt_of_le h (pow_mono l)))
 
 pub bit_below : (w n k : ℕ) → w < 2 ^ n → has_bit w k ≡ true → k < n
 bit_below w n k h e = ⊎_elim (λ l. l) (λ l. absurd (both_ways (has_bit w k) (bit_high w n k h l) e)) (cases_lt k n)
@@ -34,7 +34,7 @@ bit_below w n k h e = ⊎_elim (λ l. l) (λ l. absurd (both_ways (has_bit w k) 
 pub bit-none : (k : ℕ) → has_bit 0 k ≡ false
 bit-none k = bit_high 0 0 k (omega arith) (omega arith)
 
-pub bit-pow : (b k : ℕ) → has_bit (2 ^ b) k ≡ eqb k b
+pub bit-pow : (b k : ℕ) → has_bit (2 ^ b) k ≡ (k == b)
 bit-pow zero zero = bit-zero 1
 bit-pow zero (suc k) = bit-suc 1 k ∙ bit-none k ∙ sym (eqb-suc-zero k)
 bit-pow (suc b) zero = bit-zero (2 ^ suc b) ∙ ne_eqb (2 ^ suc b % 2) 1 (omega (arith, pow-suc 2 b)) ∙ sym (eqb-zero-suc b)
@@ -43,8 +43,8 @@ bit-pow (suc b) (suc k) = bit-suc (2 ^ suc b) k ∙ ap (λ n. has_bit n k) (omeg
 -- an operation that works bit by bit
 module _ (op : ℕ → ℕ → ℕ) (join : Bool → Bool → Bool)
     (op_shr : (v w k : ℕ) → op v w / 2 ^ k ≡ op (v / 2 ^ k) (w / 2 ^ k)) (op-mod : (v w k : ℕ) → op v w % 2 ^ k ≡ op (v % 2 ^ k) (w % 2 ^ k))
-    (none : eqb (op 0 0) 1 ≡ join false false) (right : eqb (op 0 1) 1 ≡ join false true) (left : eqb (op 1 0) 1 ≡ join true false) (both : eqb (op 1 1) 1 ≡ join true true) where
-  on-digits : (x y : ℕ) → x < 2 → y < 2 → eqb (op x y) 1 ≡ join (eqb x 1) (eqb y 1)
+    (none : (op 0 0 == 1) ≡ join false false) (right : (op 0 1 == 1) ≡ join false true) (left : (op 1 0 == 1) ≡ join true false) (both : (op 1 1 == 1) ≡ join true true) where
+  on-digits : (x y : ℕ) → x < 2 → y < 2 → (op x y == 1) ≡ join (x == 1) (y == 1)
   on-digits zero zero h l = none
   on-digits zero (suc zero) h l = right
   on-digits (suc zero) zero h l = left
@@ -56,7 +56,7 @@ module _ (op : ℕ → ℕ → ℕ) (join : Bool → Bool → Bool)
   bit-op : (v w k : ℕ) → has_bit (op v w) k ≡ join (has_bit v k) (has_bit w k)
   unfolding has_bit
   bit-op v w k =
-      ap (λ n. eqb (n % 2) 1) (op_shr v w k) ∙ ap (λ n. eqb n 1) (op-mod (v / 2 ^ k) (w / 2 ^ k) 1)
+      ap (λ n. (n % 2 == 1)) (op_shr v w k) ∙ ap (λ n. (n == 1)) (op-mod (v / 2 ^ k) (w / 2 ^ k) 1)
       ∙ on-digits (v / 2 ^ k % 2) (w / 2 ^ k % 2) (omega arith) (omega arith)
 
 pub bit-or : (v w k : ℕ) → has_bit (bit_or v w) k ≡ (has_bit v k || has_bit w k)
@@ -77,10 +77,10 @@ bit_not (suc n) w (suc k) h l =
 
 -- one bit more, and one bit less, in a word of n bits
 module _ (n w b : ℕ) (in-word : b < n) where
-  pub bit_added : (k : ℕ) → has_bit (bit_or w (1 * 2 ^ b % 2 ^ n)) k ≡ (eqb k b || has_bit w k)
+  pub bit_added : (k : ℕ) → has_bit (bit_or w (1 * 2 ^ b % 2 ^ n)) k ≡ (k == b || has_bit w k)
   bit_added k = rw (one_shl, or_comm, bit-or, bit-pow)
 
-  pub bit-taken : w < 2 ^ n → (k : ℕ) → has_bit (bit_and w ((2 ^ n - 1) - 1 * 2 ^ b % 2 ^ n)) k ≡ (has_bit w k && not (eqb k b))
+  pub bit-taken : w < 2 ^ n → (k : ℕ) → has_bit (bit_and w ((2 ^ n - 1) - 1 * 2 ^ b % 2 ^ n)) k ≡ (has_bit w k && not (k == b))
   bit-taken fits k =
       let small = pow_below b n in-word in
       rw (one_shl, bit-and)
@@ -94,7 +94,7 @@ abbrev pub Lowest : ℕ → ℕ → ℕ → Type 0
 Lowest n w t = (t < n) × (has_bit w t ≡ true) × ((j : ℕ) → j < t → has_bit w j ≡ false)
 
 below_suc : (w t : ℕ) → w % 2 ≡ 0 → ((j : ℕ) → j < t → has_bit (w / 2) j ≡ false) → (j : ℕ) → j < suc t → has_bit w j ≡ false
-below_suc w t e below zero l = bit-zero w ∙ ap (λ d. eqb d 1) e
+below_suc w t e below zero l = bit-zero w ∙ ap (λ d. (d == 1)) e
 below_suc w t e below (suc j) l = bit-suc w j ∙ below j (omega arith)
 
 lowest-under : (n w t d : ℕ) → w % 2 ≡ d → (w % 2 ≡ 0 → Lowest n (w / 2) t) → Lowest (suc n) w (under d t)

@@ -1,10 +1,10 @@
 -- The first number that passes a test, from a place on, and round.
-use Rattle.std.specs.Prelude.{ℕ, zero, suc, ◌+◌, ◌-◌, Bool, cond, Some, None, Option}
+use Rattle.std.specs.Prelude.{ℕ, zero, suc, ◌+◌, ◌-◌, Bool, Some, None, Option, if◌then◌else◌}
 
 -- the first of n numbers from a on that passes
 abbrev pub first_from : (ℕ → Bool) → ℕ → ℕ → Option ℕ
 first_from f a zero = None
-first_from f a (suc n) = cond (f a) (Some a) (first_from f (a + 1) n)
+first_from f a (suc n) = if f a then Some a else first_from f (a + 1) n
 
 abbrev pub or_else : Option ℕ → Option ℕ → Option ℕ
 or_else (Some x) o = Some x

@@ -1,5 +1,5 @@
 -- The first number that passes a test, from a place on, and round: what tells it, and what it tells.
-use Rattle.std.specs.Prelude.{◌≡◌, ℕ, zero, suc, ◌+◌, ◌-◌, ◌<◌, ◌≤◌, Bool, true, false, cond, IfSome, Some, None, Option}
+use Rattle.std.specs.Prelude.{◌≡◌, ℕ, zero, suc, ◌+◌, ◌-◌, ◌<◌, ◌≤◌, Bool, true, false, IfSome, Some, None, Option, if◌then◌else◌}
 use Rattle.std.proofs.Math.Path.{refl}
 use Rattle.std.proofs.Common.{sym, ap, ◌∙◌, ⊎_elim, arith}
 use Rattle.std.proofs.lemmas.Bool.{cases_eq, cases_Bool, cond-true, cond-false}
@@ -53,7 +53,7 @@ module _ (f : ℕ → Bool) where
   first-cut a zero n l fails = first-none a n (λ k p q. fails k (omega arith) q)
   first-cut a (suc m) zero l fails = grind arith
   first-cut a (suc m) (suc n) l fails =
-      ap (cond (f a) (Some a)) (first-cut (a + 1) m n (omega arith) (λ k p q. fails k (omega arith) (omega arith)))
+      ap (λ o. if f a then Some a else o) (first-cut (a + 1) m n (omega arith) (λ k p q. fails k (omega arith) (omega arith)))
 
   -- a search that goes round finds a number on the way up, or after the turn, or none
   pub found_up : (n at b : ℕ) → f b ≡ true → at ≤ b → b < n → ((k : ℕ) → at ≤ k → k < b → f k ≡ false) → next_from f n at ≡ Some b

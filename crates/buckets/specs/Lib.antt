@@ -1,5 +1,6 @@
 pub mod Rows
 pub mod Ties
+pub mod Nodes
 pub mod Links
 pub mod Firsts
 pub mod Sets

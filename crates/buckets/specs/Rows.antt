@@ -1,5 +1,5 @@
 -- Rows of stations, each a queue with the oldest station first: what they hold, one station less, one station more.
-use Rattle.std.specs.Prelude.{◌≡◌, ℕ, Bool, true, false, cond, ◌||◌, List, [], ◌∷◌, ◌++◌, map, Some, None, Option, ◌==◌, slice_index_or, slice_set}
+use Rattle.std.specs.Prelude.{◌≡◌, ℕ, Bool, true, false, ◌||◌, List, [], ◌∷◌, ◌++◌, map, Some, None, Option, ◌==◌, slice_index_or, slice_set, if◌then◌else◌}
 use Rattle.lists.specs.Stations.{holds}
 
 -- whether the row has a station
@@ -10,7 +10,7 @@ filled (x ∷ xs) = true
 -- the row less the station x
 abbrev pub without : ℕ → List ℕ → List ℕ
 without x [] = []
-without x (y ∷ ys) = cond (x == y) (without x ys) (y ∷ without x ys)
+without x (y ∷ ys) = if x == y then without x ys else y ∷ without x ys
 
 -- whether some row holds the station x
 abbrev pub in_rows : List (List ℕ) → ℕ → Bool
@@ -23,7 +23,7 @@ join_row rows b x = slice_set rows b (slice_index_or rows b [] ++ x ∷ [])
 
 -- the station x leaves the row that held it and goes to the end of the row b; if the row b holds it already, nothing changes
 abbrev pub placed : List (List ℕ) → ℕ → ℕ → List (List ℕ)
-placed rows b x = cond (holds (slice_index_or rows b []) x) rows (join_row (map (without x) rows) b x)
+placed rows b x = if holds (slice_index_or rows b []) x then rows else join_row (map (without x) rows) b x
 
 -- the row that holds the station x, and it alone
 abbrev pub home_in : List (List ℕ) → ℕ → Option ℕ → Type 0

@@ -1,5 +1,5 @@
 -- What rows hold, together and each, and what one station less or more makes of them.
-use Rattle.std.specs.Prelude.{◌≡◌, ℕ, zero, suc, ◌<◌, ◌≤◌, true, false, cond, not, ◌&&◌, ◌||◌, List, [], ◌∷◌, map, length, get_or, replicate, ◌==◌, slice_index_or, slice_set, refl}
+use Rattle.std.specs.Prelude.{◌≡◌, ℕ, zero, suc, ◌<◌, ◌≤◌, true, false, not, ◌&&◌, ◌||◌, List, [], ◌∷◌, map, length, replicate, ◌==◌, slice_index_or, slice_set, refl, if◌then◌else◌}
 use Rattle.std.proofs.Common.{sym, ap, ◌∙◌, ⊎_elim, arith}
 use Rattle.std.proofs.lemmas.List.{get_or-set_same, get_or-set_other, get_or-map, get_or_past, ext_get_or, length-map, length-set}
 use Rattle.std.proofs.lemmas.Bool.{cases_eq, cases_Bool, cases_lt, both_ways, eq-eqb, ne_eqb, cond-true, cond-false, or_cases, or_from, or_left, or_right, or_parts}
@@ -10,10 +10,10 @@ use Rattle.buckets.specs.Rows.{filled, without, in_rows, join_row, placed}
 use Rattle.buckets.specs.Without.{holds-without, without-none, without-top}
 
 -- a write, read at any place
-pub get_d_set : {X : Type 0} (xs : List X) (i : ℕ) (v : X) (j : ℕ) (d : X) → i < length xs → slice_index_or (slice_set xs i v) j d ≡ cond (j == i) v (slice_index_or xs j d)
+pub get_d_set : {X : Type 0} (xs : List X) (i : ℕ) (v : X) (j : ℕ) (d : X) → i < length xs → slice_index_or (slice_set xs i v) j d ≡ (if j == i then v else slice_index_or xs j d)
 get_d_set xs i v j d l =
     ⊎_elim
-    (λ (e : j ≡ i). ap (λ q. get_or (slice_set xs i v) q d) e ∙ get_or-set_same xs i v d l ∙ sym (cond-true _ _ _ (eq-eqb j i e)))
+    (λ (e : j ≡ i). ap (λ q. slice_index_or (slice_set xs i v) q d) e ∙ get_or-set_same xs i v d l ∙ sym (cond-true _ _ _ (eq-eqb j i e)))
     (λ (ne : j ≡ i → ⊥). get_or-set_other xs i j v d ne ∙ sym (cond-false _ _ _ (ne_eqb j i ne)))
     (cases_eq j i)
 
@@ -130,8 +130,8 @@ rest-without rows b x ys ok l e =
         get_or-map (without x) rows k [] [] m ∙
         ⊎_elim
         (λ (same : k ≡ b).
-        ap (without x) (ap (λ j. get_or rows j []) same ∙ e) ∙ without-top x ys (ap proper (sym e) ∙ ok.each b)
-        ∙ sym (ap (λ j. get_or (slice_set rows b ys) j []) same ∙ get_or-set_same rows b ys [] l))
+        ap (without x) (ap (λ j. slice_index_or rows j []) same ∙ e) ∙ without-top x ys (ap proper (sym e) ∙ ok.each b)
+        ∙ sym (ap (λ j. slice_index_or (slice_set rows b ys) j []) same ∙ get_or-set_same rows b ys [] l))
         (λ (ne : k ≡ b → ⊥).
         without-none (slice_index_or rows k []) x (⊎_elim (λ i. absurd (ne (ok.apart k b x i here))) (λ o. o) (cases_Bool (holds (slice_index_or rows k []) x)))
         ∙ sym (get_or-set_other rows b k ys [] ne))

@@ -1,5 +1,5 @@
 -- What shelves hold, and what a station more or less in their chains makes of their rows and marks.
-use Rattle.std.specs.Prelude.{◌≡◌, ℕ, ◌<◌, ◌≤◌, true, false, cond, not, ◌&&◌, ◌||◌, List, [], ◌∷◌, ◌++◌, map, length, get_or, replicate, Option, ◌==◌, ◌≢◌, slice_index_or}
+use Rattle.std.specs.Prelude.{◌≡◌, ℕ, ◌<◌, ◌≤◌, true, false, not, ◌&&◌, ◌||◌, List, [], ◌∷◌, ◌++◌, map, length, replicate, Option, ◌==◌, ◌≢◌, slice_index_or, if◌then◌else◌}
 use Rattle.std.proofs.Common.{sym, ap, ◌∙◌, ⊎_elim, arith}
 use Rattle.std.specs.List.{range_with_len}
 use Rattle.std.proofs.lemmas.List.{get_or_past, get_or-map, get_or-replicate, get_or-set_same, get_or-set_other, length-map, length-replicate, length-set}
@@ -79,7 +79,7 @@ module _ (s : Shelves) where
       ∙ next_from-cut (λ b. filled (slice_index_or (rows_of s) b [])) (length (rows_of s)) 64 at (omega (arith, rows-many, s.fits)) l (λ k g m. ap filled (get_or_past (rows_of s) k [] g))
 
 -- the station x is one more in the chain b
-module _ (s : Shelves) (t : Chains) (b x : ℕ) (bb : b < length (rows_of s)) (e : (k : ℕ) → k < 64 → row t k ≡ cond (k == b) (row s.chains k ++ x ∷ []) (row s.chains k)) where
+module _ (s : Shelves) (t : Chains) (b x : ℕ) (bb : b < length (rows_of s)) (e : (k : ℕ) → k < 64 → row t k ≡ (if k == b then row s.chains k ++ x ∷ [] else row s.chains k)) where
   joined : (k : ℕ) → k < 64 → k ≡ b → row t k ≡ row s.chains k ++ x ∷ []
   joined k l i = e k l ∙ cond-true _ _ _ (eq-eqb k b i)
 
@@ -92,8 +92,8 @@ module _ (s : Shelves) (t : Chains) (b x : ℕ) (bb : b < length (rows_of s)) (e
       (λ k l.
       ⊎_elim
       (λ (i : k ≡ b).
-      joined k (omega (arith, s.fits)) i ∙ ap (λ q. q ++ x ∷ []) (sym (row_at s k l) ∙ ap (λ j. get_or (rows_of s) j []) i)
-      ∙ sym (ap (λ j. get_or (join_row (rows_of s) b x) j []) i ∙ get_or-set_same (rows_of s) b (slice_index_or (rows_of s) b [] ++ x ∷ []) [] bb))
+      joined k (omega (arith, s.fits)) i ∙ ap (λ q. q ++ x ∷ []) (sym (row_at s k l) ∙ ap (λ j. slice_index_or (rows_of s) j []) i)
+      ∙ sym (ap (λ j. slice_index_or (join_row (rows_of s) b x) j []) i ∙ get_or-set_same (rows_of s) b (slice_index_or (rows_of s) b [] ++ x ∷ []) [] bb))
       (λ (ne : k ≡ b → ⊥). kept k (omega (arith, s.fits)) ne ∙ sym (row_at s k l) ∙ sym (get_or-set_other (rows_of s) b k (slice_index_or (rows_of s) b [] ++ x ∷ []) [] ne))
       (cases_eq k b))
 

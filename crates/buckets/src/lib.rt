@@ -3,5 +3,6 @@
 
 pub mod bucket;
 mod chains;
+mod node;
 mod shelves;
 mod small_set;

@@ -3,7 +3,7 @@ ghost use Rattle.std.specs.Prelude.{◌≡◌, ℕ, ◌<◌, false, not, ◌&&�
 ghost use Rattle.buckets.specs.Sets.{member};
 ghost use Rattle.buckets.specs.Firsts.{next_from};
 
-// A set of numbers below 64, one bit for each.
+// A set of numbers below 64, one bit for each. The bound is asked at each call: who calls proves it from the count of the rows, and has no type for it.
 #[derive(Clone, Copy)]
 pub struct SmallSet {
     word: u64,

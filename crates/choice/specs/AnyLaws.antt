@@ -1,5 +1,5 @@
 -- Any of the lists is lawful: each case by the laws of the list that it is.
-use Rattle.std.proofs.Common.{◌≡◌, ℕ, ◌<◌, true, false, ◌||◌, eqb, List}
+use Rattle.std.proofs.Common.{◌≡◌, ℕ, ◌<◌, true, false, ◌||◌, List, ◌==◌}
 use Rattle.kinds.specs.declared.kind.Kind.{Ghosts}
 use Rattle.kinds.specs.Laws.{Laws}
 use Rattle.lists.specs.Order.{OrderLaws, Takes}
@@ -42,7 +42,7 @@ module _ {K L G : Type 0} (k : Ghosts K L G) (laws : Laws k.carry k.at_least k.r
   clears (of_threshold m) = (threshold-laws k laws).clears m
   clears (of_bucket m) = (bucket-laws k.rank).clears m
 
-  adds : (m : AnyModel L G) (x : ℕ) (ls : List L) (y : ℕ) → AnySound m → x < 1024 → any_waiting k (any_entering k m x ls) y ≡ (eqb y x || any_waiting k m y)
+  adds : (m : AnyModel L G) (x : ℕ) (ls : List L) (y : ℕ) → AnySound m → x < 1024 → any_waiting k (any_entering k m x ls) y ≡ (y == x || any_waiting k m y)
   adds (of_first_in m) = first-laws.adds m
   adds (of_two_ended m) = two-laws.adds m
   adds (of_small_label m) = (small-laws k.at_least).adds m

@@ -16,6 +16,7 @@ use lists::two_ended::TwoEnded;
 use refusals::list::ListFault;
 
 // One of the lists, held by value; it is a candidate list itself, in the order of the list that it is.
+// It is an enum, and no `dyn CandidateList` in a box: a list lies in fixed memory, and not on the heap.
 #[derive(Drop)]
 pub enum AnyList<L, G> {
     FirstIn(FirstIn),

@@ -1,5 +1,5 @@
 -- What a write at the bottom or above the top of a ring makes of what stands in it.
-use Rattle.std.proofs.Common.{◌≡◌, ℕ, zero, suc, ◌+◌, ◌-◌, ◌%◌, ◌<◌, ◌≤◌, ◌≢◌, List, [], ◌∷◌, ◌++◌, length, get_or, set, refl, ap, ◌∙◌, arith, get_or-set_other, get_or-set_same}
+use Rattle.std.proofs.Common.{◌≡◌, ℕ, zero, suc, ◌+◌, ◌-◌, ◌%◌, ◌<◌, ◌≤◌, ◌≢◌, List, [], ◌∷◌, ◌++◌, length, set, refl, ap, ◌∙◌, arith, get_or-set_other, get_or-set_same, slice_index}
 use Rattle.lists.specs.Ring.{ring_from}
 
 pub length-ring : (ring : List ℕ) (h n : ℕ) → length (ring_from ring h n) ≡ n
@@ -9,7 +9,7 @@ length-ring ring h (suc n) = ap suc (length-ring ring ((h + 1) % 1024) n)
 pub ring-push : (ring : List ℕ) (h n p x : ℕ) → length ring ≡ 1024 → h < 1024 → n < 1024 → p ≡ (h + n) % 1024 → ring_from (set ring p x) h (suc n) ≡ ring_from ring h n ++ x ∷ []
 ring-push ring h zero p x len hb nb e =
     let same : p ≡ h = omega arith in
-    ap (λ y. y ∷ []) (ap (λ q. get_or (set ring q x) h 0) same ∙ get_or-set_same ring h x 0 (omega arith))
+    ap (λ y. y ∷ []) (ap (λ q. slice_index (set ring q x) h) same ∙ get_or-set_same ring h x 0 (omega arith))
 ring-push ring h (suc n) p x len hb nb e =
     let apart : h ≢ p = omega arith in
     let kept = get_or-set_other ring p h x 0 apart in
@@ -32,11 +32,11 @@ ring-top ring h n p x len hb nb e =
     let rest = ap (λ q. ring_from (set ring p x) q n) on ∙ ring-kept ring h n p x 1023 hb (omega arith) e (omega arith) in
     cc
 
-pub ring-pop : (ring : List ℕ) (h n : ℕ) → 0 < n → ring_from ring h n ≡ get_or ring h 0 ∷ ring_from ring ((h + 1) % 1024) (n - 1)
+pub ring-pop : (ring : List ℕ) (h n : ℕ) → 0 < n → ring_from ring h n ≡ slice_index ring h ∷ ring_from ring ((h + 1) % 1024) (n - 1)
 ring-pop ring h zero l = let bad : ⊥ = omega arith in absurd bad
-ring-pop ring h (suc n) l = ap (λ m. get_or ring h 0 ∷ ring_from ring ((h + 1) % 1024) m) (omega arith)
+ring-pop ring h (suc n) l = ap (λ m. slice_index ring h ∷ ring_from ring ((h + 1) % 1024) m) (omega arith)
 
-pub ring-at : (ring : List ℕ) (h n i : ℕ) → h < 1024 → i < n → get_or (ring_from ring h n) i 0 ≡ get_or ring ((h + i) % 1024) 0
+pub ring-at : (ring : List ℕ) (h n i : ℕ) → h < 1024 → i < n → slice_index (ring_from ring h n) i ≡ slice_index ring ((h + i) % 1024)
 ring-at ring h zero i hb l = let bad : ⊥ = omega arith in absurd bad
-ring-at ring h (suc n) zero hb l = ap (λ p. get_or ring p 0) (omega arith)
-ring-at ring h (suc n) (suc i) hb l = ring-at ring ((h + 1) % 1024) n i (omega arith) (omega arith) ∙ ap (λ p. get_or ring p 0) (omega arith)
+ring-at ring h (suc n) zero hb l = ap (slice_index ring) (omega arith)
+ring-at ring h (suc n) (suc i) hb l = ring-at ring ((h + 1) % 1024) n i (omega arith) (omega arith) ∙ ap (slice_index ring) (omega arith)

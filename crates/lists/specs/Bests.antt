@@ -1,5 +1,5 @@
 -- The best label of a queue, station by station; and that it passes a threshold which is itself carried over a step.
-use Rattle.std.proofs.Common.{◌≡◌, ℕ, ◌+◌, ◌<◌, true, eqb, ◌⊎◌, List, [], ◌∷◌, length, get_or, drop, Some, None, Option, sym, refl, ap, ◌∙◌, inl, inr, ⊎_elim}
+use Rattle.std.proofs.Common.{◌≡◌, ℕ, ◌+◌, ◌<◌, true, ◌⊎◌, List, [], ◌∷◌, length, drop, Some, None, Option, sym, refl, ap, ◌∙◌, inl, inr, ⊎_elim, ◌==◌, slice_index}
 use Rattle.std.specs.Option.{option_map}
 use Rattle.std.specs.List.{slice_get}
 use Rattle.std.proofs.lemmas.List.{drop_more}
@@ -9,7 +9,7 @@ use Rattle.kinds.specs.Laws.{Laws}
 use Rattle.lists.specs.Stations.{holds}
 use Rattle.lists.specs.Thresholds.{passes, best_on, best_label, further, better_of}
 
-module _ {K L G : Type 0} (k : Ghosts K L G) (ls : List L) (best : Option L) (line : List ℕ) (i x : ℕ) (within : i < length line) (is : x ≡ get_or line i 0) where
+module _ {K L G : Type 0} (k : Ghosts K L G) (ls : List L) (best : Option L) (line : List ℕ) (i x : ℕ) (within : i < length line) (is : x ≡ slice_index line i) where
   next-is : drop i line ≡ x ∷ drop (i + 1) line
   next-is = drop_more line i 0 within ∙ ap (λ y. y ∷ drop (i + 1) line) (sym is)
 
@@ -27,10 +27,10 @@ module _ {K L G : Type 0} (k : Ghosts K L G) (ls : List L) where
   Has xs r = (y : ℕ) × ((holds xs y ≡ true) × (slice_get ls y ≡ r))
 
   has_more : (x : ℕ) (xs : List ℕ) (r : Option L) → Has xs r → Has (x ∷ xs) r
-  has_more x xs r h = (h.0, (or_right (eqb h.0 x) (holds xs h.0) h.1.0, h.1.1))
+  has_more x xs r h = (h.0, (or_right (h.0 == x) (holds xs h.0) h.1.0, h.1.1))
 
   has-top : (x : ℕ) (xs : List ℕ) (r : Option L) → slice_get ls x ≡ r → Has (x ∷ xs) r
-  has-top x xs r e = (x, (or_left (eqb x x) (holds xs x) (eq-eqb x x refl), e))
+  has-top x xs r e = (x, (or_left (x == x) (holds xs x) (eq-eqb x x refl), e))
 
   better-either : (best : Option L) (a : L) → (Some (better_of k best a) ≡ best) ⊎ (Some (better_of k best a) ≡ Some a)
   better-either None a = inr refl

@@ -1,5 +1,5 @@
 -- The order of the first-in list (the Bellman–Ford queue): a station enters at the bottom and is picked from the top.
-use Rattle.std.specs.Prelude.{ℕ, cond, List, [], ◌∷◌, ◌++◌}
+use Rattle.std.specs.Prelude.{ℕ, List, [], ◌∷◌, ◌++◌, if◌then◌else◌}
 use Rattle.lists.specs.Order.{Order}
 use Rattle.lists.specs.Stations.{holds, top_of, rest_of}
 use Rattle.lists.specs.Queues.{line_of}
@@ -13,6 +13,6 @@ abbrev pub first_in : {A : Type 0} → Order (List ℕ) A
 first_in = record {
   waiting = holds;
   cleared = λ q. [];
-  entering = λ q x ls. cond (holds q x) q (q ++ x ∷ []);
+  entering = λ q x ls. if holds q x then q else q ++ x ∷ [];
   picking = λ q ls. (top_of q, rest_of q);
 }

@@ -1,5 +1,5 @@
 -- The laws of orders on one queue: a station that did not wait goes to either end, and the top is picked.
-use Rattle.std.specs.Prelude.{◌≡◌, ℕ, Bool, true, false, cond, not, ◌&&◌, ◌||◌, List, [], ◌∷◌, ◌++◌, Option, ◌==◌, slice_index_or, refl}
+use Rattle.std.specs.Prelude.{◌≡◌, ℕ, Bool, true, false, not, ◌&&◌, ◌||◌, List, [], ◌∷◌, ◌++◌, Option, ◌==◌, slice_index_or, refl, if◌then◌else◌}
 use Rattle.std.proofs.Common.{sym, ap, ◌∙◌, subst, ⊎_elim, arith}
 use Rattle.std.proofs.lemmas.Bool.{cases_eq, cases_Bool, cond-true, cond-false}
 use Rattle.std.proofs.lemmas.Bool.Decides.{nat_tests}
@@ -11,7 +11,7 @@ use Rattle.lists.specs.SmallLabels.{small_label, goes_first}
 use Rattle.lists.specs.StationsLemmas.{holds-push, holds-head, holds-below, holds-rest}
 
 -- a list that gained x, unless it held x already, holds x and what it held
-pub gained : (xs ys : List ℕ) (x : ℕ) → ((k : ℕ) → holds ys k ≡ (k == x || holds xs k)) → (k : ℕ) → holds (cond (holds xs x) xs ys) k ≡ (k == x || holds xs k)
+pub gained : (xs ys : List ℕ) (x : ℕ) → ((k : ℕ) → holds ys k ≡ (k == x || holds xs k)) → (k : ℕ) → holds (if holds xs x then xs else ys) k ≡ (k == x || holds xs k)
 gained xs ys x e k =
     ⊎_elim
     (λ (here : holds xs x ≡ true).
@@ -24,7 +24,7 @@ gained xs ys x e k =
     (cases_Bool (holds xs x))
 
 -- either end
-pub at-end : (b : Bool) (xs : List ℕ) (x k : ℕ) → holds (cond b (x ∷ xs) (xs ++ x ∷ [])) k ≡ (k == x || holds xs k)
+pub at-end : (b : Bool) (xs : List ℕ) (x k : ℕ) → holds (if b then x ∷ xs else xs ++ x ∷ []) k ≡ (k == x || holds xs k)
 at-end true xs x k = refl
 at-end false xs x k = holds-push xs x k
 
@@ -35,7 +35,7 @@ takes-top o m n (x ∷ xs) p e f =
     (e x ∙ holds-head x xs, λ k. f k ∙ holds-rest x xs k p ∙ ap (λ b. b && not (k == x)) (sym (e k)))
 
 -- every order that puts a new station to one end, by any rule, and picks the top of the queue
-pub ended-laws : {M A : Type 0} (o : Order M A) (line : M → List ℕ) → ((m : M) (k : ℕ) → o.waiting m k ≡ holds (line m) k) → ((m : M) → line (o.cleared m) ≡ []) → (rule : M → ℕ → List A → Bool) → ((m : M) (x : ℕ) (ls : List A) → line (o.entering m x ls) ≡ cond (holds (line m) x) (line m) (cond (rule m x ls) (x ∷ line m) (line m ++ x ∷ []))) → ((m : M) (ls : List A) → (o.picking m ls).0 ≡ top_of (line m)) → ((m : M) (ls : List A) → line (o.picking m ls).1 ≡ rest_of (line m)) → OrderLaws o (λ m. proper (line m) ≡ true)
+pub ended-laws : {M A : Type 0} (o : Order M A) (line : M → List ℕ) → ((m : M) (k : ℕ) → o.waiting m k ≡ holds (line m) k) → ((m : M) → line (o.cleared m) ≡ []) → (rule : M → ℕ → List A → Bool) → ((m : M) (x : ℕ) (ls : List A) → line (o.entering m x ls) ≡ (if holds (line m) x then line m else (if rule m x ls then x ∷ line m else line m ++ x ∷ []))) → ((m : M) (ls : List A) → (o.picking m ls).0 ≡ top_of (line m)) → ((m : M) (ls : List A) → line (o.picking m ls).1 ≡ rest_of (line m)) → OrderLaws o (λ m. proper (line m) ≡ true)
 ended-laws o line w c rule e p q = record {
   below = λ m k ok h. holds-below (line m) k ok (sym (w m k) ∙ h);
   clears = λ m k. w (o.cleared m) k ∙ ap (λ l. holds l k) (c m);
@@ -51,7 +51,7 @@ two-laws {A} =
     ended-laws (two_ended {A = A}) (λ m. m.line) (λ m k. refl) (λ m. refl) (λ m x ls. slice_index_or m.seen x false)
     (λ m x ls. cond-line (holds m.line x) m (to_its_end m x)) (λ m ls. refl) (λ m ls. refl)
   where
-    cond-line : (b : Bool) (m n : TwoEnds) → (cond b m n).line ≡ cond b m.line n.line
+    cond-line : (b : Bool) (m n : TwoEnds) → (if b then m else n).line ≡ (if b then m.line else n.line)
     cond-line true m n = refl
     cond-line false m n = refl
 

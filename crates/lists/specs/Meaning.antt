@@ -1,10 +1,10 @@
 -- What a candidate list means: a set of waiting stations below 1024, and the steps that change it.
-use Rattle.std.specs.Prelude.{◌≡◌, ℕ, zero, suc, ◌+◌, ◌<◌, Bool, true, false, cond, not, ◌&&◌, ◌||◌, List, Some, None, Option, ◌==◌}
+use Rattle.std.specs.Prelude.{◌≡◌, ℕ, zero, suc, ◌+◌, ◌<◌, Bool, true, false, not, ◌&&◌, ◌||◌, List, Some, None, Option, ◌==◌, if◌then◌else◌}
 
 -- how many numbers below n pass the test
 unfoldable pub count_below : (ℕ → Bool) → ℕ → ℕ
 count_below f zero = 0
-count_below f (suc n) = count_below f n + cond (f n) 1 0
+count_below f (suc n) = count_below f n + (if f n then 1 else 0)
 
 -- What the steps of every list do to the set. A step relates the list before and the list after; entering also has the
 -- station and the labels handed over, and picking the labels and the answer.

@@ -1,5 +1,5 @@
 -- A queue that is parted by a test, station by station: what was looked at is parted, and the rest stands above what stays.
-use Rattle.std.proofs.Common.{◌≡◌, ℕ, ◌+◌, ◌<◌, Bool, true, false, cond, not, ◌&&◌, ◌||◌, eqb, List, [], ◌∷◌, ◌++◌, length, get_or, take, drop, Some, filter, sym, refl, ap, ◌∙◌, subst, ⊎_elim, append_assoc, arith}
+use Rattle.std.proofs.Common.{◌≡◌, ℕ, ◌+◌, ◌<◌, Bool, true, false, not, ◌&&◌, ◌||◌, List, [], ◌∷◌, ◌++◌, length, take, drop, Some, filter, sym, refl, ap, ◌∙◌, subst, ⊎_elim, append_assoc, arith, if◌then◌else◌, ◌==◌, slice_index}
 use Rattle.std.proofs.lemmas.List.{drop_more, take-append-drop, append-nil}
 use Rattle.std.proofs.lemmas.List.Elements.{filter_more}
 use Rattle.std.proofs.lemmas.Bool.{cases_eq, cases_Bool, cond-true, cond-false, or_from, and_left}
@@ -32,19 +32,19 @@ once-in (y ∷ xs) x ys p =
     let a = proper-parts y (xs ++ x ∷ ys) p in
     let rest = once-in xs x ys a.2 in
     let out : (holds xs y || holds (x ∷ ys) y) ≡ false = sym (holds-append xs (x ∷ ys) y) ∙ a.1 in
-    let apart : eqb x y ≡ false = grind (arith, nat_tests) in
+    let apart : (x == y) ≡ false = grind (arith, nat_tests) in
     (rest.0, grind (arith, nat_tests), rest.2)
 
 module _ (line : List ℕ) (i : ℕ) (within : i < length line) where
   -- the list, cut at place i
-  pub cut_at : line ≡ take i line ++ get_or line i 0 ∷ drop (i + 1) line
+  pub cut_at : line ≡ take i line ++ slice_index line i ∷ drop (i + 1) line
   cut_at = sym (take-append-drop i line) ∙ ap (λ r. take i line ++ r) (drop_more line i 0 within)
 
-  pub below_at : proper line ≡ true → (get_or line i 0 < 1024) × (holds (take i line) (get_or line i 0) ≡ false) × (holds (drop (i + 1) line) (get_or line i 0) ≡ false)
-  below_at p = once-in (take i line) (get_or line i 0) (drop (i + 1) line) (ap proper (sym cut_at) ∙ p)
+  pub below_at : proper line ≡ true → (slice_index line i < 1024) × (holds (take i line) (slice_index line i) ≡ false) × (holds (drop (i + 1) line) (slice_index line i) ≡ false)
+  below_at p = once-in (take i line) (slice_index line i) (drop (i + 1) line) (ap proper (sym cut_at) ∙ p)
 
   module _ (p q : ℕ → Bool) (other : (x : ℕ) → q x ≡ not (p x)) (queue : List ℕ) (is : queue ≡ drop i line ++ filter q (take i line)) where
-    pub next-top : top_of queue ≡ top_of (get_or line i 0 ∷ [])
+    pub next-top : top_of queue ≡ top_of (slice_index line i ∷ [])
     next-top = ap top_of (is ∙ ap (λ r. r ++ filter q (take i line)) (drop_more line i 0 within))
 
     pub next-rest : rest_of queue ≡ drop (i + 1) line ++ filter q (take i line)
@@ -52,7 +52,7 @@ module _ (line : List ℕ) (i : ℕ) (within : i < length line) where
 
     -- the station x on top is the next of the line
     module _ (x : ℕ) (top : Some x ≡ top_of queue) where
-      pub next-is : get_or line i 0 ≡ x
+      pub next-is : slice_index line i ≡ x
       next-is = let up = next-top in cc
 
       below-is : proper line ≡ true → (x < 1024) × (holds (take i line) x ≡ false) × (holds (drop (i + 1) line) x ≡ false)
@@ -60,8 +60,8 @@ module _ (line : List ℕ) (i : ℕ) (within : i < length line) where
           let P : ℕ → Type 0 = λ y. (y < 1024) × (holds (take i line) y ≡ false) × (holds (drop (i + 1) line) y ≡ false) in
           subst P next-is (below_at ok)
 
-      more : (r : ℕ → Bool) → filter r (take (i + 1) line) ≡ filter r (take i line) ++ cond (r x) (x ∷ []) []
-      more r = filter_more r line i 0 within ∙ ap (λ y. filter r (take i line) ++ cond (r y) (y ∷ []) []) next-is
+      more : (r : ℕ → Bool) → filter r (take (i + 1) line) ≡ filter r (take i line) ++ (if r x then x ∷ [] else [])
+      more r = filter_more r line i 0 within ∙ ap (λ y. filter r (take i line) ++ (if r y then y ∷ [] else [])) next-is
 
       kept_more : (r : ℕ → Bool) → r x ≡ true → filter r (take (i + 1) line) ≡ filter r (take i line) ++ x ∷ []
       kept_more r pass = more r ∙ ap (λ l. filter r (take i line) ++ l) (cond-true (r x) (x ∷ []) [] pass)

@@ -1,6 +1,6 @@
 -- The order of the small-label-first list: a station goes to the top if its label is at least as good as the top station's, else to
 -- the bottom. Where the label of either was not handed over, it goes to the bottom.
-use Rattle.std.specs.Prelude.{ℕ, Bool, false, cond, List, [], ◌∷◌, ◌++◌, Some, None, Option}
+use Rattle.std.specs.Prelude.{ℕ, Bool, false, List, [], ◌∷◌, ◌++◌, Some, None, Option, if◌then◌else◌}
 use Rattle.std.specs.List.{slice_get}
 use Rattle.lists.specs.Order.{Order}
 use Rattle.lists.specs.Stations.{holds, top_of, rest_of}
@@ -27,6 +27,6 @@ module _ {A : Type 0} (at_least : A → A → Bool) where
   small_label = record {
     waiting = holds;
     cleared = λ q. [];
-    entering = λ q x ls. cond (holds q x) q (cond (goes_first ls x q) (x ∷ q) (q ++ x ∷ []));
+    entering = λ q x ls. if holds q x then q else if goes_first ls x q then x ∷ q else q ++ x ∷ [];
     picking = λ q ls. (top_of q, rest_of q);
   }

@@ -1,5 +1,5 @@
 -- Lists of stations: what one more, or one less, makes of what is held, and how many are held.
-use Rattle.std.specs.Prelude.{◌≡◌, ℕ, ◌<◌, Bool, true, false, not, ◌&&◌, ◌||◌, List, [], ◌∷◌, ◌++◌, length, get_or, ◌==◌, nat_lt, slice_index_or, slice_set, refl}
+use Rattle.std.specs.Prelude.{◌≡◌, ℕ, ◌<◌, Bool, true, false, not, ◌&&◌, ◌||◌, List, [], ◌∷◌, ◌++◌, length, ◌==◌, nat_lt, slice_index_or, slice_set, refl}
 use Rattle.std.proofs.Common.{sym, ap, ◌∙◌, ⊎_elim, arith, get_or-set_same, get_or-set_other}
 use Rattle.std.proofs.lemmas.Bool.{cases_eq, eq-eqb, ne_eqb, and_parts, not-true, ltb-true}
 use Rattle.std.proofs.lemmas.Bool.Decides.{nat_tests}
@@ -65,7 +65,7 @@ module _ (marks : List Bool) (f g : ℕ → Bool) (x : ℕ) (xb : x < length mar
   pub marked-in : ((k : ℕ) → g k ≡ (k == x || f k)) → (k : ℕ) → k < 1024 → slice_index_or (slice_set marks x true) k false ≡ g k
   marked-in e k kb =
       ⊎_elim
-      (λ (eq : k ≡ x). ap (λ j. get_or (slice_set marks x true) j false) eq ∙ get_or-set_same marks x true false xb ∙ sym (e k ∙ ap (λ b. b || f k) (eq-eqb k x eq)))
+      (λ (eq : k ≡ x). ap (λ j. slice_index_or (slice_set marks x true) j false) eq ∙ get_or-set_same marks x true false xb ∙ sym (e k ∙ ap (λ b. b || f k) (eq-eqb k x eq)))
       (λ (ne : k ≡ x → ⊥). get_or-set_other marks x k true false ne ∙ tell k kb ∙ sym (e k ∙ ap (λ b. b || f k) (ne_eqb k x ne)))
       (cases_eq k x)
 
@@ -74,9 +74,9 @@ module _ (marks : List Bool) (f g : ℕ → Bool) (x : ℕ) (xb : x < length mar
       let here = e k in
       ⊎_elim
       (λ (eq : k ≡ x).
-      let off : get_or (slice_set marks x false) k false ≡ false = ap (λ j. get_or (slice_set marks x false) j false) eq ∙ get_or-set_same marks x false false xb in
+      let off : slice_index_or (slice_set marks x false) k false ≡ false = ap (λ j. slice_index_or (slice_set marks x false) j false) eq ∙ get_or-set_same marks x false false xb in
       let same = eq-eqb k x eq in grind (arith, nat_tests))
       (λ (ne : k ≡ x → ⊥).
-      let kept : get_or (slice_set marks x false) k false ≡ f k = get_or-set_other marks x k false false ne ∙ tell k kb in
+      let kept : slice_index_or (slice_set marks x false) k false ≡ f k = get_or-set_other marks x k false false ne ∙ tell k kb in
       let apart = ne_eqb k x ne in grind (arith, nat_tests))
       (cases_eq k x)

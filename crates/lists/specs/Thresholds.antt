@@ -2,7 +2,7 @@
 -- its label is at least as good as the threshold or was not handed over, else the bottom of the second; the top of the first is picked.
 -- Where the first is empty, the threshold first becomes the best label of the second carried over the step, and all stations there that now pass
 -- move over in their order. Where some labels there were not handed over, only the stations without one move, and the threshold stays.
-use Rattle.std.specs.Prelude.{ℕ, Bool, true, false, cond, not, ◌||◌, List, [], ◌∷◌, ◌++◌, Some, None, filter, Option}
+use Rattle.std.specs.Prelude.{ℕ, Bool, true, false, not, ◌||◌, List, [], ◌∷◌, ◌++◌, Some, None, filter, Option, if◌then◌else◌}
 use Rattle.std.specs.Option.{option_map, unwrap_or}
 use Rattle.std.specs.List.{slice_get}
 use Rattle.kinds.specs.declared.kind.Kind.{Ghosts}
@@ -31,7 +31,7 @@ module _ {K L G : Type 0} (k : Ghosts K L G) where
   -- the better of a label and the best so far
   abbrev pub better_of : Option L → L → L
   better_of None a = a
-  better_of (Some b) a = cond (k.at_least b a) b a
+  better_of (Some b) a = if k.at_least b a then b else a
 
   -- goes on with a label, if it was handed over
   abbrev pub further : Option L → (L → Option L) → Option L
@@ -87,6 +87,6 @@ module _ {K L G : Type 0} (k : Ghosts K L G) where
   threshold = record {
     waiting = in_either;
     cleared = λ m. no_queues m.step;
-    entering = λ m x ls. cond (in_either m x) m (cond (passes (Some m.limit) (slice_get ls x)) (to_first m x) (to_second m x));
+    entering = λ m x ls. if in_either m x then m else if passes (Some m.limit) (slice_get ls x) then to_first m x else to_second m x;
     picking = λ m ls. top_taken (readied m.first m ls);
   }

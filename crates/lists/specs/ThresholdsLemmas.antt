@@ -1,6 +1,6 @@
 -- The two queues of a threshold list stay apart, and the laws of its order: a threshold loosened to the best label of the second queue, carried over
 -- the step, lets a station pass, so that a pick finds one wherever one waits.
-use Rattle.std.proofs.Common.{◌≡◌, ℕ, Bool, true, false, cond, not, ◌&&◌, ◌||◌, eqb, List, [], ◌∷◌, ◌++◌, Some, filter, Option, unwrap_or, sym, refl, ap, ◌∙◌, subst, ⊎_elim, arith}
+use Rattle.std.proofs.Common.{◌≡◌, ℕ, Bool, true, false, not, ◌&&◌, ◌||◌, List, [], ◌∷◌, ◌++◌, Some, filter, Option, unwrap_or, sym, refl, ap, ◌∙◌, subst, ⊎_elim, arith, if◌then◌else◌, ◌==◌}
 use Rattle.std.specs.Option.{option_map}
 use Rattle.std.specs.List.{slice_get}
 use Rattle.std.proofs.lemmas.Bool.{cases_eq, cases_Bool, both_ways, cond-true, cond-false, or_cases}
@@ -18,13 +18,13 @@ module _ (xs ys : List ℕ) (apart : Apart xs ys) (x : ℕ) where
   -- a station that is in neither joins one of them
   pub apart-first : holds ys x ≡ false → (zs : List ℕ) → zs ≡ xs ++ x ∷ [] → Apart zs ys
   apart-first out zs e k h =
-      let held : (eqb k x || holds xs k) ≡ true = sym (ap (λ l. holds l k) e ∙ holds-push xs x k) ∙ h in
+      let held : (k == x || holds xs k) ≡ true = sym (ap (λ l. holds l k) e ∙ holds-push xs x k) ∙ h in
       let old = apart k in
       ⊎_elim (λ (eq : k ≡ x). ap (holds ys) eq ∙ out) (λ (ne : k ≡ x → ⊥). grind (arith, nat_tests)) (cases_eq k x)
 
   pub apart-second : holds xs x ≡ false → (zs : List ℕ) → zs ≡ ys ++ x ∷ [] → Apart xs zs
   apart-second out zs e k h =
-      let held : holds zs k ≡ (eqb k x || holds ys k) = ap (λ l. holds l k) e ∙ holds-push ys x k in
+      let held : holds zs k ≡ (k == x || holds ys k) = ap (λ l. holds l k) e ∙ holds-push ys x k in
       let old = apart k h in
       ⊎_elim
       (λ (eq : k ≡ x). absurd (both_ways (holds xs k) (ap (holds xs) eq ∙ out) h))
@@ -100,11 +100,11 @@ module _ {K L G : Type 0} (k : Ghosts K L G) where
         let P : List ℕ → Type 0 = λ l. l ≡ [] → (j : ℕ) → holds m.second j ≡ false in
         takes_first m m.first m.second m.limit m.step ok.first-once ok.separate (λ j. refl) (subst P (sym e) (λ no_top. let z : ◌≡◌ {A = ℕ} 0 1 = cc in let bad : ⊥ = omega arith in absurd bad))
 
-    entering-holds : (m : TwoQueues L G) (x : ℕ) (b : Bool) (j : ℕ) → in_either k (cond b (to_first k m x) (to_second k m x)) j ≡ (eqb j x || in_either k m j)
+    entering-holds : (m : TwoQueues L G) (x : ℕ) (b : Bool) (j : ℕ) → in_either k (if b then to_first k m x else to_second k m x) j ≡ (j == x || in_either k m j)
     entering-holds m x true j = let e = holds-push m.first x j in grind (arith, nat_tests)
     entering-holds m x false j = let e = holds-push m.second x j in grind (arith, nat_tests)
 
-    gained-either : (m n : TwoQueues L G) (x j : ℕ) (b : Bool) → in_either k m x ≡ b → in_either k n j ≡ (eqb j x || in_either k m j) → in_either k (cond b m n) j ≡ (eqb j x || in_either k m j)
+    gained-either : (m n : TwoQueues L G) (x j : ℕ) (b : Bool) → in_either k m x ≡ b → in_either k n j ≡ (j == x || in_either k m j) → in_either k (if b then m else n) j ≡ (j == x || in_either k m j)
     gained-either m n x j true here e = ⊎_elim (λ (eq : j ≡ x). let there : in_either k m j ≡ true = ap (in_either k m) eq ∙ here in grind (arith, nat_tests)) (λ (ne : j ≡ x → ⊥). grind (arith, nat_tests)) (cases_eq j x)
     gained-either m n x j false here e = e
 

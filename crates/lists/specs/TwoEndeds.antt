@@ -1,5 +1,5 @@
 -- The order of the two-ended list (D'Esopo–Pape): a station's first entry since emptying goes to the bottom, a later one to the top.
-use Rattle.std.specs.Prelude.{ℕ, Bool, true, false, cond, List, [], ◌∷◌, ◌++◌, replicate, slice_index_or, slice_set}
+use Rattle.std.specs.Prelude.{ℕ, Bool, true, false, List, [], ◌∷◌, ◌++◌, replicate, slice_index_or, slice_set, if◌then◌else◌}
 use Rattle.lists.specs.Order.{Order}
 use Rattle.lists.specs.Stations.{holds, top_of, rest_of}
 use Rattle.lists.specs.Queues.{line_of}
@@ -18,12 +18,12 @@ no_ends = record { line = []; seen = replicate 1024 false }
 
 -- the station x, which does not wait, enters
 abbrev pub to_its_end : TwoEnds → ℕ → TwoEnds
-to_its_end m x = record { line = cond (slice_index_or m.seen x false) (x ∷ m.line) (m.line ++ x ∷ []); seen = slice_set m.seen x true }
+to_its_end m x = record { line = (if slice_index_or m.seen x false then x ∷ m.line else m.line ++ x ∷ []); seen = slice_set m.seen x true }
 
 abbrev pub two_ended : {A : Type 0} → Order TwoEnds A
 two_ended = record {
   waiting = λ m k. holds m.line k;
   cleared = λ m. no_ends;
-  entering = λ m x ls. cond (holds m.line x) m (to_its_end m x);
+  entering = λ m x ls. if holds m.line x then m else to_its_end m x;
   picking = λ m ls. (top_of m.line, record { line = rest_of m.line; seen = m.seen });
 }

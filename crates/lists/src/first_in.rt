@@ -8,10 +8,12 @@ ghost use Rattle.lists.specs.Orders.{lawful-by};
 
 use crate::list::{CandidateList, Entered};
 use crate::queue::Queue;
+use crate::station::Station;
 use kinds::kind::Kind;
 use refusals::list::ListFault;
 
 // A station enters at the bottom and is picked from the top.
+// It stands apart from the small-label and two-ended lists: a trait for their rules would be longer than the calls that they share.
 #[derive(Drop)]
 pub struct FirstIn {
     queue: Queue,
@@ -43,9 +45,7 @@ impl<K: Kind> CandidateList<K> for FirstIn {
     }
 
     fn enter(&mut self, station: u16, _labels: &[K::Label]) -> Result<Entered, ListFault> {
-        if station >= 1024 {
-            return Err(ListFault::Station);
-        }
+        let station = Station::try_from(station)?;
         if self.queue.has(station) {
             return Ok(Entered::Waiting);
         }
@@ -54,7 +54,7 @@ impl<K: Kind> CandidateList<K> for FirstIn {
     }
 
     fn pick(&mut self, _labels: &[K::Label]) -> Option<u16> {
-        self.queue.pop()
+        self.queue.pop().map(Station::index)
     }
 
     fn waiting(&self) -> u16 {

@@ -6,5 +6,6 @@ pub mod handed;
 pub mod list;
 mod queue;
 pub mod small_label;
+pub mod station;
 pub mod threshold;
 pub mod two_ended;

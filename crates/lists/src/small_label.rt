@@ -10,6 +10,7 @@ ghost use Rattle.lists.specs.Orders.{lawful-by};
 use crate::handed::handed;
 use crate::list::{CandidateList, Entered};
 use crate::queue::Queue;
+use crate::station::Station;
 use kinds::kind::Kind;
 use refusals::list::ListFault;
 
@@ -35,19 +36,18 @@ fn as_good<K: Kind>(label: Option<K::Label>, rival: Option<K::Label>) -> bool
 {
     match (label, rival) {
         (Some(a), Some(b)) => K::at_least_as_good(a, b),
-        (Some(_), None) => false,
-        (None, _) => false,
+        _ => false,
     }
 }
 
 // Whether a station goes above the queue.
-fn goes_first<K: Kind>(labels: &[K::Label], station: u16, queue: &Queue) -> bool
-    ensures { result ≡ goes_first K.Kind.at_least labels.now station (line_of queue.now) }
+fn goes_first<K: Kind>(labels: &[K::Label], station: Station, queue: &Queue) -> bool
+    ensures { result ≡ goes_first K.Kind.at_least labels.now station.index (line_of queue.now) }
 {
-    match queue.top() {
-        Some(rival) => as_good::<K>(handed(labels, station), handed(labels, rival)),
-        None => false,
-    }
+    queue.top().is_some_and(|rival| as_good::<K>(
+        handed(labels, station.index()),
+        handed(labels, rival.index()),
+    ))
 }
 
 impl<K: Kind> CandidateList<K> for SmallLabel {
@@ -66,9 +66,7 @@ impl<K: Kind> CandidateList<K> for SmallLabel {
     }
 
     fn enter(&mut self, station: u16, labels: &[K::Label]) -> Result<Entered, ListFault> {
-        if station >= 1024 {
-            return Err(ListFault::Station);
-        }
+        let station = Station::try_from(station)?;
         if self.queue.has(station) {
             return Ok(Entered::Waiting);
         }
@@ -81,7 +79,7 @@ impl<K: Kind> CandidateList<K> for SmallLabel {
     }
 
     fn pick(&mut self, _labels: &[K::Label]) -> Option<u16> {
-        self.queue.pop()
+        self.queue.pop().map(Station::index)
     }
 
     fn waiting(&self) -> u16 {

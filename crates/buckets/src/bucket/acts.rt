@@ -12,16 +12,14 @@ use crate::shelves::Shelves;
 use kinds::kind::Kind;
 use lists::handed::handed;
 use lists::list::{CandidateList, Entered};
+use lists::station::Station;
 use refusals::list::ListFault;
 
 // The rank of a station's label, or 0 where it was not handed over.
 fn rank_of<K: Kind>(labels: &[K::Label], station: u16) -> u32
     ensures { result ≡ rank_of K.Kind.rank (slice_get labels.now station) }
 {
-    match handed(labels, station) {
-        Some(label) => K::rank(label),
-        None => 0,
-    }
+    handed(labels, station).map_or(0, |label| K::rank(label))
 }
 
 impl Bucket {
@@ -66,21 +64,15 @@ impl<K: Kind> CandidateList<K> for Bucket {
     }
 
     fn enter(&mut self, station: u16, labels: &[K::Label]) -> Result<Entered, ListFault> {
-        if station >= 1024 {
-            return Err(ListFault::Station);
-        }
-        let bucket = self.bucket_of(rank_of::<K>(labels, station));
+        let station = Station::try_from(station)?;
+        let bucket = self.bucket_of(rank_of::<K>(labels, station.index()));
         Ok(self.shelves.place(bucket, station))
     }
 
     fn pick(&mut self, _labels: &[K::Label]) -> Option<u16> {
-        match self.shelves.next(self.last) {
-            Some(bucket) => {
-                self.last = bucket;
-                self.shelves.take_first(bucket)
-            }
-            None => None,
-        }
+        let bucket = self.shelves.next(self.last)?;
+        self.last = bucket;
+        self.shelves.take_first(bucket).map(Station::index)
     }
 
     fn waiting(&self) -> u16 {

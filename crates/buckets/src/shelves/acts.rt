@@ -1,5 +1,5 @@
 // What the buckets' queues do.
-ghost use Rattle.std.specs.Prelude.{◌≡◌, ◌<◌, ◌≤◌, true, false, [], map, length, replicate, is_some, IfSome, if◌then◌else◌, Some, ◌≢◌, slice_index_or, slice_set};
+ghost use Rattle.std.specs.Prelude.{◌≡◌, ◌<◌, ◌≤◌, true, false, [], map, length, replicate, is_some, IfSome, if◌then◌else◌, option_map, Some, ◌≢◌, slice_index_or, slice_set};
 ghost use Rattle.lists.specs.Meaning.{count_below};
 ghost use Rattle.lists.specs.Stations.{holds, top_of, rest_of};
 ghost use Rattle.lists.specs.declared.list.Entered.TheVariants.{Waiting, New};
@@ -11,7 +11,9 @@ use super::Shelves;
 use crate::chains::Chains;
 use crate::small_set::SmallSet;
 use lists::list::Entered;
+use lists::station::Station;
 
+// A row is asked to be below the count of this value, which is tighter than what a type for numbers below 64 would tell.
 impl Shelves {
     pub(crate) fn new(count: u8) -> Shelves
         requires { count ≤ 64 }
@@ -47,11 +49,10 @@ impl Shelves {
     }
 
     // The row that a station is in.
-    pub(crate) fn home(&self, station: u16) -> Option<u8>
-        requires { station < 1024 }
-        ensures held { home_in (rows_of self.now) station result }
-        ensures waits { in_rows (rows_of self.now) station ≡ is_some result }
-        ensures stays { IfSome result (λ home. placed (rows_of self.now) home station ≡ rows_of self.now) }
+    pub(crate) fn home(&self, station: Station) -> Option<u8>
+        ensures held { home_in (rows_of self.now) station.index result }
+        ensures waits { in_rows (rows_of self.now) station.index ≡ is_some result }
+        ensures stays { IfSome result (λ home. placed (rows_of self.now) home station.index ≡ rows_of self.now) }
     {
         self.chains.home(station)
     }
@@ -66,11 +67,10 @@ impl Shelves {
     }
 
     // The station, which is in no row, goes to the end of the row b.
-    pub(crate) fn put_in(&mut self, b: u8, station: u16)
+    pub(crate) fn put_in(&mut self, b: u8, station: Station)
         requires bound { b < length (rows_of self.old) }
-        requires small { station < 1024 }
-        requires gone { in_rows (rows_of self.old) station ≡ false }
-        ensures after { rows_of self.new ≡ placed (rows_of self.old) b station }
+        requires gone { in_rows (rows_of self.old) station.index ≡ false }
+        ensures after { rows_of self.new ≡ placed (rows_of self.old) b station.index }
         ensures many { length (rows_of self.new) ≡ length (rows_of self.old) }
     {
         self.chains.push(b, station);
@@ -78,9 +78,9 @@ impl Shelves {
     }
 
     // The station leaves the row b.
-    pub(crate) fn take_out(&mut self, b: u8, station: u16)
-        requires { holds (slice_index_or (rows_of self.old) b []) station ≡ true }
-        ensures { rows_of self.new ≡ map (without station) (rows_of self.old) }
+    pub(crate) fn take_out(&mut self, b: u8, station: Station)
+        requires { holds (slice_index_or (rows_of self.old) b []) station.index ≡ true }
+        ensures { rows_of self.new ≡ map (without station.index) (rows_of self.old) }
     {
         self.chains.unlink(station);
         if self.chains.first(b).is_none() {
@@ -89,28 +89,23 @@ impl Shelves {
     }
 
     // The oldest station of the row b leaves it.
-    pub(crate) fn take_first(&mut self, b: u8) -> Option<u16>
+    pub(crate) fn take_first(&mut self, b: u8) -> Option<Station>
         requires { b < length (rows_of self.old) }
-        ensures answer { result ≡ top_of (slice_index_or (rows_of self.old) b []) }
+        ensures answer { option_map (λ s. s.index) result ≡ top_of (slice_index_or (rows_of self.old) b []) }
         ensures after { rows_of self.new ≡ slice_set (rows_of self.old) b (rest_of (slice_index_or (rows_of self.old) b [])) }
         ensures many { length (rows_of self.new) ≡ length (rows_of self.old) }
     {
-        match self.chains.first(b) {
-            Some(station) => {
-                self.take_out(b, station);
-                Some(station)
-            }
-            None => None,
-        }
+        let station = self.chains.first(b)?;
+        self.take_out(b, station);
+        Some(station)
     }
 
     // The station goes from its row to the end of the row b.
-    pub(crate) fn shift(&mut self, home: u8, b: u8, station: u16)
+    pub(crate) fn shift(&mut self, home: u8, b: u8, station: Station)
         requires bound { b < length (rows_of self.old) }
-        requires small { station < 1024 }
-        requires held { home_in (rows_of self.old) station (Some home) }
+        requires held { home_in (rows_of self.old) station.index (Some home) }
         requires apart { home ≢ b }
-        ensures after { rows_of self.new ≡ placed (rows_of self.old) b station }
+        ensures after { rows_of self.new ≡ placed (rows_of self.old) b station.index }
         ensures many { length (rows_of self.new) ≡ length (rows_of self.old) }
     {
         self.take_out(home, station);
@@ -118,24 +113,19 @@ impl Shelves {
     }
 
     // The station goes to the end of the row b, unless it is in that row already.
-    pub(crate) fn place(&mut self, b: u8, station: u16) -> Entered
+    pub(crate) fn place(&mut self, b: u8, station: Station) -> Entered
         requires bound { b < length (rows_of self.old) }
-        requires small { station < 1024 }
-        ensures answer { result ≡ (if in_rows (rows_of self.old) station then Waiting else New) }
-        ensures after { rows_of self.new ≡ placed (rows_of self.old) b station }
+        ensures answer { result ≡ (if in_rows (rows_of self.old) station.index then Waiting else New) }
+        ensures after { rows_of self.new ≡ placed (rows_of self.old) b station.index }
         ensures many { length (rows_of self.new) ≡ length (rows_of self.old) }
     {
-        match self.home(station) {
-            Some(home) => {
-                if home != b {
-                    self.shift(home, b, station);
-                }
-                Entered::Waiting
-            }
-            None => {
-                self.put_in(b, station);
-                Entered::New
-            }
+        let Some(home) = self.home(station) else {
+            self.put_in(b, station);
+            return Entered::New;
+        };
+        if home != b {
+            self.shift(home, b, station);
         }
+        Entered::Waiting
     }
 }

@@ -16,6 +16,7 @@ use super::Threshold;
 use crate::handed::handed;
 use crate::list::{CandidateList, Entered};
 use crate::queue::Queue;
+use crate::station::Station;
 use kinds::kind::Kind;
 use refusals::list::ListFault;
 
@@ -23,12 +24,10 @@ use refusals::list::ListFault;
 fn passing<K: Kind>(limit: Option<K::Label>, label: Option<K::Label>) -> bool
     ensures { result ≡ passes K.Kind limit label }
 {
-    match label {
-        None => true,
-        Some(a) => match limit {
-            None => false,
-            Some(limit) => K::at_least_as_good(a, limit),
-        },
+    match (limit, label) {
+        (_, None) => true,
+        (None, Some(_)) => false,
+        (Some(limit), Some(label)) => K::at_least_as_good(label, limit),
     }
 }
 
@@ -36,21 +35,19 @@ fn better_of<K: Kind>(best: Option<K::Label>, a: K::Label) -> K::Label
     ensures { result ≡ better_of K.Kind best a }
 {
     match best {
-        None => a,
-        Some(b) => { if K::at_least_as_good(b, a) { b } else { a } }
+        Some(best) if K::at_least_as_good(best, a) => best,
+        _ => a,
     }
 }
 
-// The best label of a queue, or none where one was not handed over or the queue is empty.
+// The best label of a queue, or none where one was not handed over or the queue is empty. It counts places: a ring has no slice of its stations.
 fn best_label<K: Kind>(labels: &[K::Label], queue: &Queue) -> Option<K::Label>
     ensures { result ≡ best_label K.Kind labels.now (line_of queue.now) }
 {
     let mut best = None;
     for i in 0..queue.len() {
-        match handed(labels, queue.at(i)) {
-            None => return None,
-            Some(a) => best = Some(better_of::<K>(best, a)),
-        }
+        let label = handed(labels, queue.at(i).index())?;
+        best = Some(better_of::<K>(best, label));
     }
     best
 }
@@ -66,10 +63,9 @@ fn part<K: Kind>(
     ensures over { line_of first.new ≡ filter (λ x. passes K.Kind limit (slice_get labels.now x)) (line_of second.old) }
     ensures left { line_of second.new ≡ filter (λ x. not (passes K.Kind limit (slice_get labels.now x))) (line_of second.old) }
 {
-    let count = second.len();
-    for _i in 0..count {
+    for _ in 0..second.len() {
         if let Some(station) = second.pop() {
-            if passing::<K>(limit, handed(labels, station)) {
+            if passing::<K>(limit, handed(labels, station.index())) {
                 first.push_bottom(station);
             } else {
                 second.push_bottom(station);
@@ -78,7 +74,7 @@ fn part<K: Kind>(
     }
 }
 
-// A new threshold list, with this step.
+// A new threshold list, with this step. It is no method, as the type of a list does not tell the kind of its labels.
 pub fn new_threshold<K: Kind>(step: K::Grade) -> Threshold<K::Label, K::Grade>
     ensures { queues_of result ≡ no_queues K.Kind step }
 {
@@ -95,10 +91,7 @@ pub fn new_threshold<K: Kind>(step: K::Grade) -> Threshold<K::Label, K::Grade>
 fn loosen<K: Kind>(labels: &[K::Label], second: &Queue, step: K::Grade) -> Option<K::Label>
     ensures { result ≡ option_map (λ best. K.Kind.carry best step) (best_label K.Kind labels.now (line_of second.now)) }
 {
-    match best_label::<K>(labels, second) {
-        Some(best) => Some(K::carry(best, step)),
-        None => None,
-    }
+    best_label::<K>(labels, second).map(|best| K::carry(best, step))
 }
 
 // Fills the first queue, which is empty, from the second.
@@ -108,22 +101,7 @@ fn refill<K: Kind>(list: &mut Threshold<K::Label, K::Grade>, labels: &[K::Label]
 {
     let limit = loosen::<K>(labels, &list.second, list.step);
     part::<K>(&mut list.first, &mut list.second, labels, limit);
-    list.limit = moved(limit, list.limit);
-}
-
-// The threshold after a refill: it stays where none was set.
-fn moved<L: Copy>(limit: Option<L>, old: L) -> L
-    ensures { result ≡ unwrap_or limit old }
-{
-    limit.unwrap_or(old)
-}
-
-// How many stations wait in two queues that share none.
-fn in_both(first: &Queue, second: &Queue) -> u16
-    requires { Apart (line_of first.now) (line_of second.now) }
-    ensures { result ≡ count_below (λ k. holds (line_of first.now) k || holds (line_of second.now) k) 1024 }
-{
-    first.len() + second.len()
+    list.limit = limit.unwrap_or(list.limit);
 }
 
 impl<K: Kind> CandidateList<K> for Threshold<K::Label, K::Grade> {
@@ -146,13 +124,11 @@ impl<K: Kind> CandidateList<K> for Threshold<K::Label, K::Grade> {
     }
 
     fn enter(&mut self, station: u16, labels: &[K::Label]) -> Result<Entered, ListFault> {
-        if station >= 1024 {
-            return Err(ListFault::Station);
-        }
+        let station = Station::try_from(station)?;
         if self.first.has(station) || self.second.has(station) {
             return Ok(Entered::Waiting);
         }
-        if passing::<K>(Some(self.limit), handed(labels, station)) {
+        if passing::<K>(Some(self.limit), handed(labels, station.index())) {
             self.first.push_bottom(station);
         } else {
             self.second.push_bottom(station);
@@ -164,10 +140,10 @@ impl<K: Kind> CandidateList<K> for Threshold<K::Label, K::Grade> {
         if self.first.len() == 0 {
             refill::<K>(self, labels);
         }
-        self.first.pop()
+        self.first.pop().map(Station::index)
     }
 
     fn waiting(&self) -> u16 {
-        in_both(&self.first, &self.second)
+        self.first.len() + self.second.len()
     }
 }

@@ -10,6 +10,7 @@ ghost use Rattle.lists.specs.Orders.{lawful-by};
 use super::TwoEnded;
 use crate::list::{CandidateList, Entered};
 use crate::queue::Queue;
+use crate::station::Station;
 use kinds::kind::Kind;
 use refusals::list::ListFault;
 
@@ -41,23 +42,21 @@ impl<K: Kind> CandidateList<K> for TwoEnded {
     }
 
     fn enter(&mut self, station: u16, _labels: &[K::Label]) -> Result<Entered, ListFault> {
-        if station >= 1024 {
-            return Err(ListFault::Station);
-        }
+        let station = Station::try_from(station)?;
         if self.queue.has(station) {
             return Ok(Entered::Waiting);
         }
-        if self.seen[station as usize] {
+        if self.seen[station.index() as usize] {
             self.queue.push_top(station);
         } else {
-            self.seen[station as usize] = true;
+            self.seen[station.index() as usize] = true;
             self.queue.push_bottom(station);
         }
         Ok(Entered::New)
     }
 
     fn pick(&mut self, _labels: &[K::Label]) -> Option<u16> {
-        self.queue.pop()
+        self.queue.pop().map(Station::index)
     }
 
     fn waiting(&self) -> u16 {

@@ -1,18 +1,19 @@
 -- New chains are empty, and their ghost fields hold.
-use Rattle.std.proofs.Common.{refl, arith}
-use Rattle.buckets.proofs.Fresh.{fresh-settled, fresh-counts}
+use Rattle.std.proofs.Common.{refl}
+use Rattle.buckets.proofs.Fresh.{fresh-settled, fresh-within, fresh-counts}
 use Rattle.buckets.proofs.chains.Chains.new.Goals as goal
 
 pub invariant_of-result : goal.invariant_of-result
 invariant_of-result c =
-    let w = fresh-settled c.close.new.links c.close-2.new.links c.close.ensures c.close-2.ensures in
+    let w = fresh-settled _ _ c.empty_nodes.ensures.next c.empty_nodes.ensures.prev in
     record {
-      sized = (omega arith, omega arith, refl);
+      sized = (c.empty_nodes.ensures.wide, refl);
       ties = w.tied;
       once = w.once;
       homes = w.homes;
+      within = fresh-within;
       counted = fresh-counts;
     }
 
 pub returns : goal.returns
-returns c = (fresh-settled c.close.new.links c.close-2.new.links c.close.ensures c.close-2.ensures).are
+returns c = (fresh-settled _ _ c.empty_nodes.ensures.next c.empty_nodes.ensures.prev).are

@@ -26,6 +26,6 @@ module _ (s : Shelves) (x : ℕ) where
 pub returns : goal.returns
 returns c =
     let s = c.args.self.now in
-    let x = c.args.station in
+    let x = c.args.station.index in
     let held = held_at s x c.home.result c.home.ensures in
     record { held = held; waits = waits-at s x c.home.result held; stays = stays_at s x c.home.result held }

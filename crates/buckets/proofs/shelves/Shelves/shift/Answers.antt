@@ -13,10 +13,9 @@ take_out-requires c = c.requires.held c.args.home ∙ eq-eqb c.args.home c.args.
 pub put_in-requires : goal.put_in-requires
 put_in-requires c =
     let rows = rows_of c.args.self.now in
-    let x = c.args.station in
+    let x = c.args.station.index in
     record {
       bound = omega (arith, ap length c.take_out.ensures ∙ length-map rows (without x), c.requires.bound);
-      small = c.requires.small;
       gone = ap (λ q. in_rows q x) c.take_out.ensures ∙ without_gone rows x;
     }
 
@@ -24,7 +23,7 @@ pub returns : goal.returns
 returns c =
     let rows = rows_of c.args.self.now in
     let b = c.args.b in
-    let x = c.args.station in
+    let x = c.args.station.index in
     let home = c.args.home in
     let after =
     c.put_in.ensures.after ∙ ap (λ q. placed q b x) c.take_out.ensures ∙ placed-new (map (without x) rows) b x (without_gone rows x)

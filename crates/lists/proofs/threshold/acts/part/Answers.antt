@@ -13,35 +13,35 @@ pub push_bottom-requires : goal.push_bottom-requires
 push_bottom-requires g c =
     let p : ℕ → Bool = λ x. passes g.K.Kind c.args.limit (slice_get c.args.labels.now x) in
     let line = line_of c.args.second.now in
-    let i = c.loop-i._i in
-    let within : i < length line = omega (arith, c.loop-i-test.true, c.len-count.ensures.many) in
-    let out = out-of-moved line i within p (λ x. not (p x)) (λ x. refl) (line_of c.loop-i.second) c.loop-i.invariant.1 c.in-Some.station c.in-Some.ensures.answer c.args.second.now.once in
-    (out.0, ap (λ l. holds l c.in-Some.station) c.loop-i.invariant.0 ∙ out.1)
+    let i = c.loop.counter in
+    let within : i < length line = omega (arith, c.loop-test.true, c.len-end.ensures.many) in
+    let out = out-of-moved line i within p (λ x. not (p x)) (λ x. refl) (line_of c.loop.second) c.loop.invariant.1 c.in-Some.station.index c.in-Some.ensures.answer c.args.second.now.once in
+    ap (λ l. holds l c.in-Some.station.index) c.loop.invariant.0 ∙ out.1
 
-pub loop-i-preserved : goal.loop-i-preserved
-loop-i-preserved g c =
+pub loop-preserved : goal.loop-preserved
+loop-preserved g c =
     let p : ℕ → Bool = λ x. passes g.K.Kind c.args.limit (slice_get c.args.labels.now x) in
     let line = line_of c.args.second.now in
-    let i = c.loop-i._i in
-    let within : i < length line = omega (arith, c.loop-i-test.true, c.len-count.ensures.many) in
-    let queue = line_of c.loop-i.second in
+    let i = c.loop.counter in
+    let within : i < length line = omega (arith, c.loop-test.true, c.len-end.ensures.many) in
+    let queue = line_of c.loop.second in
     elim c.match-pop.branch [
       | in-Some+then-passing w ↦
           let turn =
-          part-over line i within p (λ x. not (p x)) (λ x. refl) queue c.loop-i.invariant.1 w.in-Some.station w.in-Some.ensures.answer
-          (ap (passes g.K.Kind c.args.limit) (sym w.handed.ensures) ∙ sym w.if-passing.ensures) in (
-            ap line_of w.first-is ∙ w.push_bottom.ensures ∙ ap (λ l. l ++ w.in-Some.station ∷ []) c.loop-i.invariant.0 ∙ turn.0,
+          part-over line i within p (λ x. not (p x)) (λ x. refl) queue c.loop.invariant.1 w.in-Some.station.index w.in-Some.ensures.answer
+          (ap p (sym w.index.ensures) ∙ ap (passes g.K.Kind c.args.limit) (sym w.handed.ensures) ∙ sym w.if-passing.ensures) in (
+            ap line_of w.first-is ∙ w.push_bottom.ensures ∙ ap (λ l. l ++ w.in-Some.station.index ∷ []) c.loop.invariant.0 ∙ turn.0,
             ap line_of w.second-is ∙ c.pop.ensures.after ∙ turn.1,
           )
       | in-Some+else-passing w ↦
           let turn =
-          part_stays line i within p (λ x. not (p x)) (λ x. refl) queue c.loop-i.invariant.1 w.in-Some.station w.in-Some.ensures.answer
-          (ap (passes g.K.Kind c.args.limit) (sym w.handed.ensures) ∙ sym w.if-passing.ensures) in (
-            ap line_of w.first-is ∙ c.loop-i.invariant.0 ∙ turn.0,
-            ap line_of w.second-is ∙ w.push_bottom-else-passing.ensures ∙ ap (λ l. l ++ w.in-Some.station ∷ []) c.pop.ensures.after ∙ turn.1,
+          part_stays line i within p (λ x. not (p x)) (λ x. refl) queue c.loop.invariant.1 w.in-Some.station.index w.in-Some.ensures.answer
+          (ap p (sym w.index.ensures) ∙ ap (passes g.K.Kind c.args.limit) (sym w.handed.ensures) ∙ sym w.if-passing.ensures) in (
+            ap line_of w.first-is ∙ c.loop.invariant.0 ∙ turn.0,
+            ap line_of w.second-is ∙ w.push_bottom-else-passing.ensures ∙ ap (λ l. l ++ w.in-Some.station.index ∷ []) c.pop.ensures.after ∙ turn.1,
           )
       | in_default w ↦
-          let some = next-top line i within p (λ x. not (p x)) (λ x. refl) queue c.loop-i.invariant.1 in
+          let some = next-top line i within p (λ x. not (p x)) (λ x. refl) queue c.loop.invariant.1 in
           let none = w.in_default.ensures.answer in
           let never : ◌≡◌ {A = ℕ} 0 1 = cc in
           let bad : ⊥ = omega arith in
@@ -52,9 +52,9 @@ pub returns : goal.returns
 returns g c =
     let p : ℕ → Bool = λ x. passes g.K.Kind c.args.limit (slice_get c.args.labels.now x) in
     let line = line_of c.args.second.now in
-    let done : length line ≤ c.loop-i._i = omega (arith, c.loop-i-test.false, c.len-count.ensures.many) in
-    let all = take_all c.loop-i._i line done in
+    let done : length line ≤ c.loop.counter = omega (arith, c.loop-test.false, c.len-end.ensures.many) in
+    let all = take_all c.loop.counter line done in
     record {
-      over = c.loop-i.invariant.0 ∙ ap (filter p) all;
-      left = c.loop-i.invariant.1 ∙ ap (λ l. l ++ filter (λ x. not (p x)) (take c.loop-i._i line)) (drop_all c.loop-i._i line done) ∙ ap (filter (λ x. not (p x))) all;
+      over = c.loop.invariant.0 ∙ ap (filter p) all;
+      left = c.loop.invariant.1 ∙ ap (λ l. l ++ filter (λ x. not (p x)) (take c.loop.counter line)) (drop_all c.loop.counter line done) ∙ ap (filter (λ x. not (p x))) all;
     }

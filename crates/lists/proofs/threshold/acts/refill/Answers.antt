@@ -13,5 +13,5 @@ invariant_of-list g c =
 
 pub returns : goal.returns
 returns g c =
-    refilled-is g.K.Kind (queues_of c.args.list.now) c.args.labels.now c.loosen-limit.result (line_of c.part.new.first) (line_of c.part.new.second) c.moved-list.result
-    c.loosen-limit.ensures c.part.ensures.over c.part.ensures.left c.moved-list.ensures
+    refilled-is g.K.Kind (queues_of c.args.list.now) c.args.labels.now c.loosen-limit.result (line_of c.part.new.first) (line_of c.part.new.second) c.unwrap_or-list.result
+    c.loosen-limit.ensures c.part.ensures.over c.part.ensures.left c.unwrap_or-list.ensures
