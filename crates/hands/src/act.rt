@@ -1,11 +1,11 @@
 // Carrying out the list commands.
-ghost use Rattle.std.specs.Prelude.{◌≡◌, map, take};
+ghost use Rattle.std.specs.Prelude.{◌≡◌, map};
 ghost use Rattle.answers.specs.Outcomes.{Does};
 ghost use Rattle.hands.specs.Acts.{handed_over, poked, chose, entered, picked, emptied, waited};
 ghost use Rattle.hands.specs.Asks.{enter_asked, pick_asked, poke_asked};
 ghost use Rattle.hands.specs.Held.{held_by};
 
-use crate::ask::{enter_asked, has_words, pick_asked, poke_asked};
+use crate::ask::{NotChosen, enter_asked, pick_asked, poke_asked};
 use crate::holding::Holding;
 use answers::answer::Answer;
 use answers::trouble::{Trouble, Usage};
@@ -13,19 +13,7 @@ use choice::make::{Choice, make};
 use kinds::kind::Kind;
 use lists::list::CandidateList;
 use reading::read::Readable;
-use refusals::kind::KindFault;
 use refusals::told::Fault;
-
-// The first so many, or all where there are no more.
-fn first_of<L>(labels: &[L], count: usize) -> &[L]
-    ensures { result.now ≡ take count labels.now }
-{
-    if count < labels.len() {
-        &labels[0..count]
-    } else {
-        labels
-    }
-}
 
 // The labels that are handed over: all, or the first so many.
 fn handed_over<L>(labels: &[L], handed: Option<u16>) -> &[L]
@@ -33,7 +21,7 @@ fn handed_over<L>(labels: &[L], handed: Option<u16>) -> &[L]
 {
     match handed {
         None => labels,
-        Some(count) => first_of(labels, count as usize),
+        Some(count) => labels.get(..count as usize).unwrap_or(labels),
     }
 }
 
@@ -41,36 +29,33 @@ fn handed_over<L>(labels: &[L], handed: Option<u16>) -> &[L]
 pub fn poke<L: Readable, G>(held: &mut Holding<L, G>, words: &[&[u8]]) -> Result<Answer, Trouble>
     ensures { Does (poked (held_by held.old) (poke_asked L.Readable.reads L.Readable.bounds (map (λ x. x.now) words.now))) result (held_by held.new) }
 {
-    match poke_asked::<L>(words) {
-        Ok((index, label)) => {
-            let at = index as usize;
-            if at >= held.labels.len() {
-                return Err(Trouble::NoLabel(held.labels.len()));
-            }
-            held.labels[at] = label;
-            Ok(Answer::Poked)
-        }
-        Err(trouble) => Err(trouble),
-    }
+    let (index, label) = poke_asked::<L>(words)?;
+    let count = held.labels.len();
+    let Some(old) = held.labels.get_mut(index as usize) else {
+        return Err(Trouble::NoLabel(count));
+    };
+    *old = label;
+    Ok(Answer::Poked)
 }
 
 // `list`: the list that was asked for, new and empty, takes the place of the one that is held.
 pub fn take_list<K: Kind>(
     held: &mut Holding<K::Label, K::Grade>,
-    asked: Result<Result<Choice<K::Grade>, KindFault>, Trouble>,
+    asked: Result<Choice<K::Grade>, NotChosen>,
 ) -> Result<Answer, Trouble>
     ensures { Does (chose K.Kind (held_by held.old) asked) result (held_by held.new) }
 {
-    match asked {
-        Err(trouble) => Err(trouble),
-        Ok(Err(fault)) => Ok(Answer::Refused(fault.told())),
-        Ok(Ok(choice)) => match make::<K>(choice) {
-            Ok(list) => {
-                held.list = list;
-                Ok(Answer::List(choice.name()))
-            }
-            Err(fault) => Ok(Answer::Refused(fault.told())),
-        },
+    let choice = match asked {
+        Ok(choice) => choice,
+        Err(NotChosen::Refused(fault)) => return Ok(Answer::Refused(fault.told())),
+        Err(NotChosen::Troubled(trouble)) => return Err(trouble),
+    };
+    match make::<K>(choice) {
+        Ok(list) => {
+            held.list = list;
+            Ok(Answer::List(choice.name()))
+        }
+        Err(fault) => Ok(Answer::Refused(fault.told())),
     }
 }
 
@@ -81,15 +66,11 @@ pub fn enter<K: Kind>(
 ) -> Result<Answer, Trouble>
     ensures { Does (entered K.Kind (held_by held.old) (enter_asked (map (λ x. x.now) words.now))) result (held_by held.new) }
 {
-    match enter_asked(words) {
-        Ok((station, handed)) => {
-            let labels = handed_over(held.labels.as_slice(), handed);
-            match CandidateList::<K>::enter(&mut held.list, station, labels) {
-                Ok(entered) => Ok(Answer::Entered(entered)),
-                Err(fault) => Ok(Answer::Refused(fault.told())),
-            }
-        }
-        Err(trouble) => Err(trouble),
+    let (station, handed) = enter_asked(words)?;
+    let labels = handed_over(held.labels.as_slice(), handed);
+    match CandidateList::<K>::enter(&mut held.list, station, labels) {
+        Ok(entered) => Ok(Answer::Entered(entered)),
+        Err(fault) => Ok(Answer::Refused(fault.told())),
     }
 }
 
@@ -100,13 +81,9 @@ pub fn pick<K: Kind>(
 ) -> Result<Answer, Trouble>
     ensures { Does (picked K.Kind (held_by held.old) (pick_asked (map (λ x. x.now) words.now))) result (held_by held.new) }
 {
-    match pick_asked(words) {
-        Ok(handed) => {
-            let labels = handed_over(held.labels.as_slice(), handed);
-            Ok(Answer::Picked(CandidateList::<K>::pick(&mut held.list, labels)))
-        }
-        Err(trouble) => Err(trouble),
-    }
+    let handed = pick_asked(words)?;
+    let labels = handed_over(held.labels.as_slice(), handed);
+    Ok(Answer::Picked(CandidateList::<K>::pick(&mut held.list, labels)))
 }
 
 // `empty`: empties the list that is held.
@@ -116,7 +93,7 @@ pub fn empty<K: Kind>(
 ) -> Result<Answer, Trouble>
     ensures { Does (emptied K.Kind (held_by held.old) (map (λ x. x.now) words.now)) result (held_by held.new) }
 {
-    if !has_words(words, 1) {
+    if words.len() != 1 {
         return Err(Trouble::Usage(Usage::Empty));
     }
     CandidateList::<K>::empty(&mut held.list);
@@ -130,7 +107,7 @@ pub fn waiting<K: Kind>(
 ) -> Result<Answer, Trouble>
     ensures { Does (waited K.Kind (held_by held.now) (map (λ x. x.now) words.now)) result (held_by held.now) }
 {
-    if !has_words(words, 1) {
+    if words.len() != 1 {
         return Err(Trouble::Usage(Usage::Waiting));
     }
     Ok(Answer::Waiting(CandidateList::<K>::waiting(&held.list)))
