@@ -1,5 +1,6 @@
 // What the words of a list command ask for. Words are counted from 0: word 0 is the command itself.
-ghost use Rattle.std.specs.Prelude.{◌≡◌, map};
+ghost use Rattle.std.specs.Prelude.{◌≡◌};
+ghost use Rattle.script.specs.Words.{word_bytes};
 ghost use Rattle.hands.specs.declared.ask.NotChosen.TheVariants.{Refused, Troubled};
 ghost use Rattle.hands.specs.Asks.{enter_asked, pick_asked, poke_asked, choice_asked, step_asked, buckets_asked};
 
@@ -37,7 +38,7 @@ impl From<Trouble> for NotChosen {
 
 // `enter`: a station, and how many labels are handed over, if not all.
 pub fn enter_asked(words: &[&[u8]]) -> Result<(u16, Option<u16>), Trouble>
-    ensures { result ≡ enter_asked (map (λ x. x.now) words.now) }
+    ensures { result ≡ enter_asked (word_bytes words.now) }
 {
     match words.len() {
         2 => Ok((read_one(words, 1)?, None)),
@@ -48,7 +49,7 @@ pub fn enter_asked(words: &[&[u8]]) -> Result<(u16, Option<u16>), Trouble>
 
 // `pick`: how many labels are handed over, if not all.
 pub fn pick_asked(words: &[&[u8]]) -> Result<Option<u16>, Trouble>
-    ensures { result ≡ pick_asked (map (λ x. x.now) words.now) }
+    ensures { result ≡ pick_asked (word_bytes words.now) }
 {
     match words.len() {
         1 => Ok(None),
@@ -59,7 +60,7 @@ pub fn pick_asked(words: &[&[u8]]) -> Result<Option<u16>, Trouble>
 
 // `poke label`: an index and a label.
 pub fn poke_asked<L: Readable>(words: &[&[u8]]) -> Result<(u16, L), Trouble>
-    ensures { result ≡ poke_asked L.Readable.reads L.Readable.bounds (map (λ x. x.now) words.now) }
+    ensures { result ≡ poke_asked L.Readable.reads L.Readable.bounds (word_bytes words.now) }
 {
     if words.len() != 4 || !reads_as(word_at(words, 1), "label") {
         return Err(Trouble::Usage(Usage::Poke));
@@ -69,21 +70,21 @@ pub fn poke_asked<L: Readable>(words: &[&[u8]]) -> Result<(u16, L), Trouble>
 
 // The step of a threshold list.
 fn step_asked<G: Single>(words: &[&[u8]]) -> Result<Choice<G>, NotChosen>
-    ensures { result ≡ step_asked G.Spelt.reads G.Spelt.bounds G.makes (map (λ x. x.now) words.now) }
+    ensures { result ≡ step_asked G.Spelt.reads G.Spelt.bounds G.makes (word_bytes words.now) }
 {
     Ok(Choice::Threshold(G::single(read_one(words, 2)?)?))
 }
 
 // The width and the span of buckets.
 fn buckets_asked<G: Single>(words: &[&[u8]]) -> Result<Choice<G>, NotChosen>
-    ensures { result ≡ buckets_asked G.Spelt.reads G.Spelt.bounds G.makes (map (λ x. x.now) words.now) }
+    ensures { result ≡ buckets_asked G.Spelt.reads G.Spelt.bounds G.makes (word_bytes words.now) }
 {
     Ok(Choice::Bucket(read_one(words, 2)?, read_one(words, 3)?))
 }
 
 // `list`: the list that is chosen.
 pub fn choice_asked<G: Single>(words: &[&[u8]]) -> Result<Choice<G>, NotChosen>
-    ensures { result ≡ choice_asked G.Spelt.reads G.Spelt.bounds G.makes (map (λ x. x.now) words.now) }
+    ensures { result ≡ choice_asked G.Spelt.reads G.Spelt.bounds G.makes (word_bytes words.now) }
 {
     match (ListName::try_from(word_at(words, 1)), words.len()) {
         (Ok(ListName::FirstIn), 2) => Ok(Choice::FirstIn),

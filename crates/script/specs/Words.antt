@@ -1,5 +1,10 @@
 -- The words of a line.
-use Rattle.std.specs.Prelude.{ℕ, Bool, if◌then◌else◌, ◌||◌, List, [], ◌∷◌, ◌++◌, ◌==◌}
+use Rattle.std.specs.Prelude.{ℕ, Bool, if◌then◌else◌, ◌||◌, List, [], ◌∷◌, ◌++◌, ◌==◌, map}
+use Rattle.std.specs.Borrow.{Bor}
+
+-- what words behind references spell
+abbrev pub word_bytes : List (Bor (List ℕ)) → List (List ℕ)
+word_bytes words = map (λ word. word.now) words
 
 -- a tab, a carriage return or a space
 abbrev pub blank : ℕ → Bool

@@ -1,7 +1,7 @@
 // The words of a line.
-ghost use Rattle.std.specs.Prelude.{◌≡◌, map, IfOk};
+ghost use Rattle.std.specs.Prelude.{◌≡◌, IfOk};
 ghost use Rattle.std.specs.Str.{bytes_eq};
-ghost use Rattle.script.specs.Words.{blank, words_of};
+ghost use Rattle.script.specs.Words.{blank, word_bytes, words_of};
 
 use std::alloc::{AllocError, Global};
 
@@ -14,7 +14,7 @@ fn is_blank(byte: u8) -> bool
 
 // The words of a line, in their order: its longest runs of bytes that are no blanks.
 pub fn words(heap: Global, line: &[u8]) -> Result<Vec<&[u8]>, AllocError>
-    ensures { IfOk result (λ v. map (λ x. x.now) v.items ≡ words_of line.now) }
+    ensures { IfOk result (λ v. word_bytes v.items ≡ words_of line.now) }
 {
     line.split(|byte| is_blank(*byte))
         .filter(|word| !word.is_empty())
