@@ -1,5 +1,5 @@
 -- A new list is as after emptying.
-use Rattle.std.proofs.Common.{◌≡◌, ℕ, Bool, true, false, cond, [], Ok, Err, Result, refl, ap, subst}
+use Rattle.std.proofs.Common.{◌≡◌, ℕ, Bool, true, false, if◌then◌else◌, [], Ok, Err, Result, refl, ap, subst}
 use lib.ListN.{length-replicate}
 use Rattle.refusals.specs.declared.list.ListFault.{ListFault}
 use Rattle.refusals.specs.declared.list.ListFault.TheVariants.{Buckets}
@@ -16,7 +16,7 @@ InOk P (Ok m) = P m
 InOk P (Err e) = Unit {0}
 
 module _ {K L G : Type 0} (k : Ghosts K L G) where
-  fresh-buckets : (width span : ℕ) (b : Bool) → InOk (Fresh {L = L} k) (cond b (Err Buckets) (Ok (of_bucket (no_rows width (bucket_count width span)))))
+  fresh-buckets : (width span : ℕ) (b : Bool) → InOk (Fresh {L = L} k) (if b then Err Buckets else Ok (of_bucket (no_rows width (bucket_count width span))))
   fresh-buckets width span true = tt
   fresh-buckets width span false = ap (λ n. of_bucket (no_rows width n)) (length-replicate (bucket_count width span) [])
 
