@@ -1,5 +1,5 @@
 -- Chance as a kind of grade: parts of 65536 are multiplied and rounded down, and more is better.
-use Rattle.std.specs.Prelude.{ℕ, ◌-◌, ◌*◌, ◌/◌, ◌≤◌, min, Bool, cond, Ok, Err, Result, nat_le, nat_lt}
+use Rattle.std.specs.Prelude.{ℕ, ◌-◌, ◌*◌, ◌/◌, ◌≤◌, min, Bool, if◌then◌else◌, Ok, Err, Result, nat_le, nat_lt}
 use Rattle.std.proofs.Math.Nat.{div-le_of_le-mul, min-le_right}
 use Rattle.std.proofs.Common.{mul-le-mul}
 use Rattle.refusals.specs.declared.kind.KindFault.{KindFault}
@@ -12,7 +12,7 @@ chance_read n = record { parts = min n 65536; most = min-le_right n 65536 }
 
 -- a chance that is made singly
 abbrev pub chance_made : ℕ → Result Chance KindFault
-chance_made n = cond (nat_lt 65536 n) (Err fault.Chance) (Ok (chance_read n))
+chance_made n = if nat_lt 65536 n then Err fault.Chance else Ok (chance_read n)
 
 abbrev pub chance_start : Chance
 chance_start = chance_read 65536

@@ -2,7 +2,7 @@
 use Rattle.std.specs.Prelude.{◌≡◌, ◌≤◌, true, ℤ, pos, negsuc, int_le}
 use Rattle.std.proofs.Common.{ap, subst, arith}
 use Rattle.std.proofs.Math.Bool.{Bool-set}
-use Rattle.std.proofs.Math.Bridge.{le_prop}
+use Rattle.std.specs.Coded.{×_prop, le_prop}
 use Rattle.std.proofs.lemmas.Bool.{leb-true}
 use Rattle.kinds.specs.declared.airtime.Airtime.{Airtime}
 use Rattle.kinds.specs.declared.chance.Chance.{Chance}
@@ -27,12 +27,9 @@ same-chance x y e =
 abbrev Bounds : ℤ → Type 0
 Bounds z = (int_le (negsuc 127) z ≡ true) × (int_le z (pos 127) ≡ true)
 
-bounds-once : (z : ℤ) (p q : Bounds z) → p ≡ q
-bounds-once z p q = λ i. (Bool-set (int_le (negsuc 127) z) true p.0 q.0 i, Bool-set (int_le z (pos 127)) true p.1 q.1 i)
-
 pub same-margin : (x y : Margin) → x.decibels ≡ y.decibels → x ≡ y
 same-margin x y e =
-    same-made Bounds bounds-once (λ z p. record { decibels = z; least = p.0; most = p.1 }) x.decibels y.decibels (x.least, x.most) (y.least, y.most) e
+    same-made Bounds (λ z p q. ×_prop (Bool-set _ _) (Bool-set _ _) p q) (λ z p. record { decibels = z; least = p.0; most = p.1 }) x.decibels y.decibels (x.least, x.most) (y.least, y.most) e
 
 -- a value is what is made of its number
 pub airtime_of-micros : (x : Airtime) → airtime_of x.micros ≡ x

@@ -2,19 +2,13 @@
 ghost use Rattle.std.specs.Prelude.{◌≡◌, ◌≤◌};
 
 // How long a reading is in the air: microseconds, where 4,294,967,295 stands for that many or more.
-#[derive(Clone, Copy)]
+#[derive(Clone, Copy, Debug, PartialEq, Eq, PartialOrd, Ord)]
 pub struct Airtime {
     micros: u32,
     ghost fits: { micros ≤ 4294967295 },
 }
 
 impl Airtime {
-    pub fn new(micros: u32) -> Airtime
-        ensures { result.micros ≡ micros }
-    {
-        Airtime { micros }
-    }
-
     pub fn micros(self) -> u32
         ensures { result ≡ self.micros }
     {

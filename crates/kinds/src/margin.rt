@@ -2,7 +2,7 @@
 ghost use Rattle.std.specs.Prelude.{◌≡◌, true, pos, negsuc, int_le};
 
 // By how many decibels the weakest link is above what the radio needs: -128 to 127.
-#[derive(Clone, Copy)]
+#[derive(Clone, Copy, Debug, PartialEq, Eq, PartialOrd, Ord)]
 pub struct Margin {
     decibels: i8,
     ghost least: { int_le (negsuc 127) decibels ≡ true },
@@ -10,12 +10,6 @@ pub struct Margin {
 }
 
 impl Margin {
-    pub fn new(decibels: i8) -> Margin
-        ensures { result.decibels ≡ decibels }
-    {
-        Margin { decibels }
-    }
-
     pub fn decibels(self) -> i8
         ensures { result ≡ self.decibels }
     {

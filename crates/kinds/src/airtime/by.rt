@@ -9,19 +9,13 @@ use super::Airtime;
 use crate::kind::Kind;
 use std::fmt;
 
-// So many microseconds.
-fn airtime(micros: u32) -> Airtime
-    ensures { result ≡ airtime_of micros }
-{
-    Airtime { micros }
-}
-
-// The sum, which stops at 4,294,967,295.
-fn sum(a: Airtime, b: Airtime) -> Airtime
-    ensures { result ≡ airtime_of (a.micros + b.micros) }
-{
-    Airtime {
-        micros: a.micros.saturating_add(b.micros),
+impl Airtime {
+    // So many microseconds.
+    pub fn new(micros: u32) -> Airtime
+        ensures made { result ≡ airtime_of micros }
+        ensures holds { result.micros ≡ micros }
+    {
+        Airtime { micros }
     }
 }
 
@@ -52,15 +46,15 @@ impl Kind for ByAirtime {
     } };
 
     fn start() -> Airtime {
-        airtime(0)
+        Airtime::new(0)
     }
 
     fn carry(label: Airtime, grade: Airtime) -> Airtime {
-        sum(label, grade)
+        Airtime::new(label.micros.saturating_add(grade.micros))
     }
 
     fn at_least_as_good(a: Airtime, b: Airtime) -> bool {
-        a.micros <= b.micros
+        a <= b
     }
 
     fn rank(label: Airtime) -> u32 {

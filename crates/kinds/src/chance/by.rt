@@ -1,5 +1,5 @@
 // Chance as a kind of grade.
-ghost use Rattle.std.specs.Prelude.{◌≡◌, ◌≤◌, Some, decimal};
+ghost use Rattle.std.specs.Prelude.{◌≡◌, ◌≤◌, Some, decimal, min};
 ghost use Rattle.kinds.specs.Chances.{chance_start, chance_carry, chance_at_least, chance_rank, chance_read, chance_made};
 ghost use Rattle.std.proofs.Common.{arith, rules};
 ghost use Rattle.std.proofs.lemmas.Bool.{leb-true, le-leb};
@@ -12,6 +12,16 @@ use refusals::kind::KindFault;
 use std::fmt;
 
 impl Chance {
+    // The chance that a number in a list stands for: a number above 65,536 reads as 65,536.
+    pub fn read(number: u32) -> Chance
+        ensures made { result ≡ chance_read number }
+        ensures holds { result.parts ≡ min number 65536 }
+    {
+        Chance {
+            parts: number.min(65536),
+        }
+    }
+
     // One chance from its parts; a number above 65,536 is refused.
     pub fn new(number: u32) -> Result<Chance, KindFault>
         ensures { result ≡ chance_made number }
@@ -19,25 +29,7 @@ impl Chance {
         if number > 65536 {
             return Err(KindFault::Chance);
         }
-        Ok(chance(number))
-    }
-}
-
-// So many parts of 65,536, which are at most all.
-fn chance(parts: u32) -> Chance
-    requires { parts ≤ 65536 }
-    ensures { result ≡ chance_read parts }
-{
-    Chance { parts }
-}
-
-// The chance that two things come about, rounded down.
-fn product(a: Chance, b: Chance) -> Chance
-    ensures { result ≡ chance_carry a b }
-{
-    let parts = a.parts as u64 * b.parts as u64;
-    Chance {
-        parts: (parts / 65536) as u32,
+        Ok(Chance::read(number))
     }
 }
 
@@ -68,15 +60,17 @@ impl Kind for ByChance {
     } };
 
     fn start() -> Chance {
-        chance(65536)
+        Chance::read(65536)
     }
 
     fn carry(label: Chance, grade: Chance) -> Chance {
-        product(label, grade)
+        Chance {
+            parts: (u64::from(label.parts) * u64::from(grade.parts) / 65536) as u32,
+        }
     }
 
     fn at_least_as_good(a: Chance, b: Chance) -> bool {
-        b.parts <= a.parts
+        b <= a
     }
 
     fn rank(label: Chance) -> u32 {

@@ -10,19 +10,13 @@ use super::Margin;
 use crate::kind::Kind;
 use std::fmt;
 
-// So many decibels.
-fn margin(decibels: i8) -> Margin
-    ensures { result ≡ margin_of decibels }
-{
-    Margin { decibels }
-}
-
-// The smaller of two margins.
-fn smaller(a: Margin, b: Margin) -> Margin
-    ensures { result ≡ margin_carry a b }
-{
-    Margin {
-        decibels: a.decibels.min(b.decibels),
+impl Margin {
+    // So many decibels.
+    pub fn new(decibels: i8) -> Margin
+        ensures made { result ≡ margin_of decibels }
+        ensures holds { result.decibels ≡ decibels }
+    {
+        Margin { decibels }
     }
 }
 
@@ -53,15 +47,15 @@ impl Kind for ByMargin {
     } };
 
     fn start() -> Margin {
-        margin(127)
+        Margin::new(127)
     }
 
     fn carry(label: Margin, grade: Margin) -> Margin {
-        smaller(label, grade)
+        label.min(grade)
     }
 
     fn at_least_as_good(a: Margin, b: Margin) -> bool {
-        b.decibels <= a.decibels
+        b <= a
     }
 
     fn rank(label: Margin) -> u32 {
