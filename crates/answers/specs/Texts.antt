@@ -1,8 +1,7 @@
 -- The text of answers and troubles.
 use Rattle.std.specs.Prelude.{ℕ, List, ◌++◌, Some, None, codes, decimal, Option}
 use Rattle.std.specs.Fmt.{signed_decimal}
-use Rattle.refusals.specs.declared.told.Layer.{Layer}
-use Rattle.refusals.specs.declared.told.Layer.TheVariants as layer
+use Rattle.refusals.specs.Texts.{told_text}
 use Rattle.lists.specs.declared.list.Entered.{Entered}
 use Rattle.lists.specs.declared.list.Entered.TheVariants.{New, Waiting}
 use Rattle.choice.specs.Names.{list_word}
@@ -20,13 +19,6 @@ use Rattle.answers.specs.declared.verb.KindName.{KindName}
 use Rattle.answers.specs.declared.verb.KindName.TheVariants as name
 use Rattle.answers.specs.declared.fault.WayFault.{WayFault}
 use Rattle.answers.specs.declared.fault.WayFault.TheVariants as way
-
-abbrev pub layer_text : Layer → List ℕ
-layer_text layer.Net = codes "net"
-layer_text layer.Kind = codes "kind"
-layer_text layer.List = codes "list"
-layer_text layer.Book = codes "book"
-layer_text layer.Check = codes "check"
 
 abbrev pub kind_text : KindName → List ℕ
 kind_text name.Airtime = codes "airtime"
@@ -62,8 +54,7 @@ answer_text (answer.Entered e) = entered_text e
 answer_text (answer.Picked o) = picked_text o
 answer_text answer.Emptied = codes "empty"
 answer_text (answer.Waiting n) = codes "waiting " ++ decimal n
-answer_text (answer.Refused t) =
-    codes "refused " ++ (decimal t.number ++ (codes " place " ++ (decimal t.place ++ (codes " layer " ++ layer_text t.layer))))
+answer_text (answer.Refused t) = told_text t
 
 abbrev pub way_text : WayFault → List ℕ
 way_text (way.Grades n m) = codes "not a path: " ++ (decimal n ++ (codes " grades for " ++ (decimal m ++ codes " links")))

@@ -1,5 +1,5 @@
 -- The commands and the kinds, by their words.
-use Rattle.std.specs.Prelude.{ℕ, cond, List, Some, None, codes, Option}
+use Rattle.std.specs.Prelude.{ℕ, if◌then◌else◌, List, Some, None, codes, Option}
 use Rattle.std.specs.Str.{bytes_eq}
 use Rattle.answers.specs.declared.verb.Verb.{Verb}
 use Rattle.answers.specs.declared.verb.SiteVerb.{SiteVerb}
@@ -7,19 +7,19 @@ use Rattle.answers.specs.declared.verb.KindName.{KindName}
 
 abbrev pub verb_of : List ℕ → Option Verb
 verb_of w =
-    cond (bytes_eq w (codes "net")) (Some Verb.Net)
-    (cond (bytes_eq w (codes "kind")) (Some (Verb.Site SiteVerb.Kind))
-    (cond (bytes_eq w (codes "grades")) (Some (Verb.Site SiteVerb.Grades))
-    (cond (bytes_eq w (codes "list")) (Some (Verb.Site SiteVerb.List))
-    (cond (bytes_eq w (codes "path")) (Some (Verb.Site SiteVerb.Path))
-    (cond (bytes_eq w (codes "poke")) (Some (Verb.Site SiteVerb.Poke))
-    (cond (bytes_eq w (codes "enter")) (Some (Verb.Site SiteVerb.Enter))
-    (cond (bytes_eq w (codes "pick")) (Some (Verb.Site SiteVerb.Pick))
-    (cond (bytes_eq w (codes "empty")) (Some (Verb.Site SiteVerb.Empty))
-    (cond (bytes_eq w (codes "waiting")) (Some (Verb.Site SiteVerb.Waiting)) None)))))))))
+    if bytes_eq w (codes "net") then Some Verb.Net else
+    (if bytes_eq w (codes "kind") then Some (Verb.Site SiteVerb.Kind) else
+    (if bytes_eq w (codes "grades") then Some (Verb.Site SiteVerb.Grades) else
+    (if bytes_eq w (codes "list") then Some (Verb.Site SiteVerb.List) else
+    (if bytes_eq w (codes "path") then Some (Verb.Site SiteVerb.Path) else
+    (if bytes_eq w (codes "poke") then Some (Verb.Site SiteVerb.Poke) else
+    (if bytes_eq w (codes "enter") then Some (Verb.Site SiteVerb.Enter) else
+    (if bytes_eq w (codes "pick") then Some (Verb.Site SiteVerb.Pick) else
+    (if bytes_eq w (codes "empty") then Some (Verb.Site SiteVerb.Empty) else
+    (if bytes_eq w (codes "waiting") then Some (Verb.Site SiteVerb.Waiting) else None)))))))))
 
 abbrev pub kind_named : List ℕ → Option KindName
 kind_named w =
-    cond (bytes_eq w (codes "airtime")) (Some KindName.Airtime)
-    (cond (bytes_eq w (codes "chance")) (Some KindName.Chance)
-    (cond (bytes_eq w (codes "margin")) (Some KindName.Margin) None))
+    if bytes_eq w (codes "airtime") then Some KindName.Airtime else
+    (if bytes_eq w (codes "chance") then Some KindName.Chance else
+    (if bytes_eq w (codes "margin") then Some KindName.Margin else None))

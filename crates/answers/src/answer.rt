@@ -1,4 +1,7 @@
 // What commands answer.
+ghost use Rattle.std.specs.Prelude.{Some};
+ghost use Rattle.answers.specs.Texts.{label_text, answer_text};
+
 use crate::verb::KindName;
 use choice::list_name::ListName;
 use kinds::airtime::Airtime;
@@ -6,6 +9,7 @@ use kinds::chance::Chance;
 use kinds::margin::Margin;
 use lists::list::Entered;
 use refusals::told::Told;
+use std::fmt;
 
 // A label, in the kind that the site has.
 #[derive(Clone, Copy)]
@@ -13,6 +17,18 @@ pub enum Label {
     Airtime(Airtime),
     Chance(Chance),
     Margin(Margin),
+}
+
+impl fmt::Display for Label {
+    ghost output = { λ x. Some (label_text x) };
+
+    fn fmt<W: fmt::Write>(&self, f: &mut fmt::Formatter<W>) -> fmt::Result {
+        match self {
+            Label::Airtime(x) => write!(f, "{x}"),
+            Label::Chance(x) => write!(f, "{x}"),
+            Label::Margin(x) => write!(f, "{x}"),
+        }
+    }
 }
 
 // What a command that was carried out, or refused, answers.
@@ -35,4 +51,27 @@ pub enum Answer {
     // So many stations wait.
     Waiting(u16),
     Refused(Told),
+}
+
+// The line that answers a command.
+impl fmt::Display for Answer {
+    ghost output = { λ x. Some (answer_text x) };
+
+    fn fmt<W: fmt::Write>(&self, f: &mut fmt::Formatter<W>) -> fmt::Result {
+        match self {
+            Answer::Net(stations, links) => write!(f, "net ok {stations} {links}"),
+            Answer::Kind(kind) => write!(f, "kind {kind}"),
+            Answer::Grades(count) => write!(f, "grades {count}"),
+            Answer::List(name) => write!(f, "list {}", name.word()),
+            Answer::Path(label) => write!(f, "path {label}"),
+            Answer::Poked => f.write_str("poke"),
+            Answer::Entered(Entered::New) => f.write_str("enter new"),
+            Answer::Entered(Entered::Waiting) => f.write_str("enter waiting"),
+            Answer::Picked(Some(station)) => write!(f, "pick {station}"),
+            Answer::Picked(None) => f.write_str("pick none"),
+            Answer::Emptied => f.write_str("empty"),
+            Answer::Waiting(count) => write!(f, "waiting {count}"),
+            Answer::Refused(told) => write!(f, "{told}"),
+        }
+    }
 }

@@ -3,6 +3,5 @@
 
 pub mod answer;
 pub mod fault;
-pub mod text;
 pub mod trouble;
 pub mod verb;

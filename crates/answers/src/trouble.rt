@@ -1,9 +1,12 @@
 // Why a line is not carried out.
-ghost use Rattle.std.specs.Prelude.{◌≡◌};
+ghost use Rattle.std.specs.Prelude.{◌≡◌, Some};
 ghost use Rattle.answers.specs.declared.trouble.Trouble.TheVariants.{Memory};
+ghost use Rattle.answers.specs.Texts.{bounds_text, usage_text, trouble_text, error_text};
 
 use crate::fault::WayFault;
 use std::alloc::{AllocError, AllocFailed};
+use std::error::Error;
+use std::fmt;
 
 // Where a number of a script has to lie.
 #[derive(Clone, Copy, Debug, PartialEq, Eq)]
@@ -16,6 +19,18 @@ pub enum Bounds {
     Decibels,
 }
 
+impl fmt::Display for Bounds {
+    ghost output = { λ x. Some (bounds_text x) };
+
+    fn fmt<W: fmt::Write>(&self, f: &mut fmt::Formatter<W>) -> fmt::Result {
+        f.write_str(match self {
+            Bounds::Short => "0 to 65535",
+            Bounds::Long => "0 to 4294967295",
+            Bounds::Decibels => "-128 to 127",
+        })
+    }
+}
+
 // Commands that take certain words and no others.
 #[derive(Clone, Copy, Debug, PartialEq, Eq)]
 pub enum Usage {
@@ -25,6 +40,23 @@ pub enum Usage {
     Pick,
     Empty,
     Waiting,
+}
+
+impl fmt::Display for Usage {
+    ghost output = { λ x. Some (usage_text x) };
+
+    fn fmt<W: fmt::Write>(&self, f: &mut fmt::Formatter<W>) -> fmt::Result {
+        f.write_str(match self {
+            Usage::List => {
+                "list takes first-in, two-ended, small-label, threshold <step> or bucket <width> <span>"
+            }
+            Usage::Poke => "poke takes label <index> <value>",
+            Usage::Enter => "enter takes <station> [handed]",
+            Usage::Pick => "pick takes [handed]",
+            Usage::Empty => "empty takes no words",
+            Usage::Waiting => "waiting takes no words",
+        })
+    }
 }
 
 // Why a line of a script is not carried out.
@@ -50,6 +82,29 @@ pub enum Trouble {
     Memory,
 }
 
+impl fmt::Display for Trouble {
+    ghost output = { λ x. Some (trouble_text x) };
+
+    fn fmt<W: fmt::Write>(&self, f: &mut fmt::Formatter<W>) -> fmt::Result {
+        match self {
+            Trouble::Unknown => f.write_str("unknown command"),
+            Trouble::NoNet => f.write_str("no net yet"),
+            Trouble::NotNumber(word, bounds) => {
+                write!(f, "word {word} is not a number from {bounds}")
+            }
+            Trouble::NoSlash => f.write_str("net needs one / between starts and heads"),
+            Trouble::NoKind => f.write_str("kind takes one of airtime, chance, margin"),
+            Trouble::Usage(usage) => write!(f, "{usage}"),
+            Trouble::NoLabel(count) => write!(f, "there are {count} labels"),
+            Trouble::NotPath(fault) => write!(f, "{fault}"),
+            Trouble::Memory => f.write_str("out of memory"),
+        }
+    }
+}
+
+impl Error for Trouble {}
+
+// These are written out, since callers' clauses name the error that `?` makes: a derived `From` has no `from_gives`.
 impl From<AllocError> for Trouble {
     ghost from_gives = { λ _ r. r ≡ Memory };
 
@@ -65,3 +120,21 @@ impl<T: Drop> From<AllocFailed<T>> for Trouble {
         Trouble::Memory
     }
 }
+
+// Why the line of this number was not carried out.
+#[derive(Clone, Copy, Debug, PartialEq, Eq)]
+pub struct Failed {
+    pub line: u64,
+    pub trouble: Trouble,
+}
+
+impl fmt::Display for Failed {
+    ghost output = { λ x. Some (error_text x.line x.trouble) };
+
+    fn fmt<W: fmt::Write>(&self, f: &mut fmt::Formatter<W>) -> fmt::Result {
+        let Failed { line, trouble } = self;
+        write!(f, "error line {line}: {trouble}")
+    }
+}
+
+impl Error for Failed {}

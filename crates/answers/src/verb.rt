@@ -1,8 +1,12 @@
 // Commands and kinds by their words.
-ghost use Rattle.std.specs.Prelude.{◌≡◌};
+ghost use Rattle.std.specs.Prelude.{◌≡◌, Some};
+ghost use Rattle.std.specs.Option.{ok_or};
+ghost use Rattle.answers.specs.declared.trouble.Trouble.TheVariants.{Unknown, NoKind};
+ghost use Rattle.answers.specs.Texts.{kind_text};
 ghost use Rattle.answers.specs.Verbs.{verb_of, kind_named};
 
-use script::words::reads_as;
+use crate::trouble::Trouble;
+use std::fmt;
 
 // What a line asks for, by its first word.
 #[derive(Clone, Copy, Debug, PartialEq, Eq)]
@@ -35,44 +39,51 @@ pub enum KindName {
     Margin,
 }
 
-pub fn verb_of(word: &[u8]) -> Option<Verb>
-    ensures { result ≡ verb_of word.now }
-{
-    if reads_as(word, "net") {
-        Some(Verb::Net)
-    } else if reads_as(word, "kind") {
-        Some(Verb::Site(SiteVerb::Kind))
-    } else if reads_as(word, "grades") {
-        Some(Verb::Site(SiteVerb::Grades))
-    } else if reads_as(word, "list") {
-        Some(Verb::Site(SiteVerb::List))
-    } else if reads_as(word, "path") {
-        Some(Verb::Site(SiteVerb::Path))
-    } else if reads_as(word, "poke") {
-        Some(Verb::Site(SiteVerb::Poke))
-    } else if reads_as(word, "enter") {
-        Some(Verb::Site(SiteVerb::Enter))
-    } else if reads_as(word, "pick") {
-        Some(Verb::Site(SiteVerb::Pick))
-    } else if reads_as(word, "empty") {
-        Some(Verb::Site(SiteVerb::Empty))
-    } else if reads_as(word, "waiting") {
-        Some(Verb::Site(SiteVerb::Waiting))
-    } else {
-        None
+impl TryFrom<&[u8]> for Verb {
+    type Error = Trouble;
+
+    ghost try_from_gives = { λ w r. r ≡ ok_or (verb_of w.now) Unknown };
+
+    fn try_from(word: &[u8]) -> Result<Verb, Trouble> {
+        match word {
+            b"net" => Ok(Verb::Net),
+            b"kind" => Ok(Verb::Site(SiteVerb::Kind)),
+            b"grades" => Ok(Verb::Site(SiteVerb::Grades)),
+            b"list" => Ok(Verb::Site(SiteVerb::List)),
+            b"path" => Ok(Verb::Site(SiteVerb::Path)),
+            b"poke" => Ok(Verb::Site(SiteVerb::Poke)),
+            b"enter" => Ok(Verb::Site(SiteVerb::Enter)),
+            b"pick" => Ok(Verb::Site(SiteVerb::Pick)),
+            b"empty" => Ok(Verb::Site(SiteVerb::Empty)),
+            b"waiting" => Ok(Verb::Site(SiteVerb::Waiting)),
+            _ => Err(Trouble::Unknown),
+        }
     }
 }
 
-pub fn kind_named(word: &[u8]) -> Option<KindName>
-    ensures { result ≡ kind_named word.now }
-{
-    if reads_as(word, "airtime") {
-        Some(KindName::Airtime)
-    } else if reads_as(word, "chance") {
-        Some(KindName::Chance)
-    } else if reads_as(word, "margin") {
-        Some(KindName::Margin)
-    } else {
-        None
+impl TryFrom<&[u8]> for KindName {
+    type Error = Trouble;
+
+    ghost try_from_gives = { λ w r. r ≡ ok_or (kind_named w.now) NoKind };
+
+    fn try_from(word: &[u8]) -> Result<KindName, Trouble> {
+        match word {
+            b"airtime" => Ok(KindName::Airtime),
+            b"chance" => Ok(KindName::Chance),
+            b"margin" => Ok(KindName::Margin),
+            _ => Err(Trouble::NoKind),
+        }
+    }
+}
+
+impl fmt::Display for KindName {
+    ghost output = { λ x. Some (kind_text x) };
+
+    fn fmt<W: fmt::Write>(&self, f: &mut fmt::Formatter<W>) -> fmt::Result {
+        f.write_str(match self {
+            KindName::Airtime => "airtime",
+            KindName::Chance => "chance",
+            KindName::Margin => "margin",
+        })
     }
 }

@@ -1,55 +1,63 @@
 -- Where the `/` of a `net` line stands, and what the line then reads as.
-use Rattle.std.proofs.Common.{◌≡◌, ℕ, ◌+◌, ◌<◌, true, false, ltb, List, [], ◌∷◌, map, length, get_or, take, drop, Ok, Err, codes, Result, sym, ap, ◌∙◌, arith, take_all, Bor}
-use lib.ListN.{length-map, get_or-map}
-use Rattle.std.proofs.lemmas.Bool.{lt-ltb, le-ltb}
-use Rattle.std.specs.List.{prefix_len}
+use Rattle.std.proofs.Common.{◌≡◌, ℕ, suc, ◌+◌, ◌<◌, Bool, true, false, ltb, cond, List, [], ◌∷◌, length, take, drop, ◌⊎◌, Some, None, Option, Ok, Err, codes, Result, sym, ap, ◌∙◌, refl, arith, take_all, Bor}
+use lib.ListN.{length-map}
+use Rattle.std.proofs.lemmas.List.{take-map}
+use Rattle.std.proofs.lemmas.Bool.{lt-ltb, ltb-true, ltb-false}
+use Rattle.std.specs.List.{prefix_len, position}
+use Rattle.std.specs.Option.{option_map, unwrap_or, SomeIff}
 use Rattle.std.specs.Str.{bytes_eq}
-use Rattle.std.proofs.lemmas.List.{drop_more, drop_all}
 use Rattle.answers.specs.declared.trouble.Bounds.{Bounds}
 use Rattle.answers.specs.declared.trouble.Trouble.{Trouble}
-use Rattle.answers.specs.declared.trouble.Trouble.TheVariants.{NoSlash}
+use Rattle.answers.specs.declared.trouble.Trouble.TheVariants.{Memory}
 use Rattle.reading.specs.Nets.{no_slash, slash_at, net_read, with_starts, with_heads}
-use Rattle.reading.specs.Reading.{read_all}
+use Rattle.reading.specs.Reading.{texts, read_all, Got}
 use Rattle.reading.specs.Spelling.{short_read}
 
-module _ (words : List (Bor (List ℕ))) (i : ℕ) where
-  -- the words from i on
-  abbrev pub onward : List (List ℕ)
-  onward = drop i (map (λ x. x.now) words)
+-- the words before the first `/`, behind their references
+before : (ws : List (Bor (List ℕ))) → prefix_len no_slash (texts ws) ≡ prefix_len (λ w. no_slash w.now) ws
+before [] = refl
+before (w ∷ ws) = rw (before ws)
 
-  onward-more : (d : Bor (List ℕ)) → d.now ≡ [] → i < length words → onward ≡ (get_or words i d).now ∷ drop (i + 1) (map (λ x. x.now) words)
-  onward-more d z h =
-      drop_more (map (λ x. x.now) words) i [] (omega (arith, length-map words (λ x. x.now)))
-      ∙ ap (λ w. w ∷ drop (i + 1) (map (λ x. x.now) words)) (ap (get_or (map (λ x. x.now) words) i) (sym z) ∙ get_or-map (λ x. x.now) words i d)
+one_later : (n m : ℕ) (b : Bool) → ltb n m ≡ b → SomeIff (option_map (λ i. i + 1) (cond b (Some n) None)) (1 + n < suc m) (1 + n)
+one_later n m true h = (omega (arith, ltb-true n m h), omega arith)
+one_later n m false h = λ k. omega (arith, ltb-false n m h)
 
-  pub slash-here : (d : Bor (List ℕ)) → d.now ≡ [] → i < length words → bytes_eq (get_or words i d).now (codes "/") ≡ true → prefix_len no_slash onward ≡ 0
-  slash-here d z h e = ap (prefix_len no_slash) (onward-more d z h) ∙ rw e
+-- the index of the first `/` after the first word
+pub found : (ws : List (Bor (List ℕ)))
+    → SomeIff (option_map (λ i. i + 1) (position (λ w. bytes_eq w.now (codes "/")) (drop 1 ws))) (slash_at (texts ws) < length ws) (slash_at (texts ws))
+found [] = λ k. omega arith
+found (w ∷ ws) = rw (before ws) (one_later _ (length ws) _ refl)
 
-  pub slash-later : (d : Bor (List ℕ)) → d.now ≡ [] → i < length words → bytes_eq (get_or words i d).now (codes "/") ≡ false
-      → prefix_len no_slash onward ≡ 1 + prefix_len no_slash (drop (i + 1) (map (λ x. x.now) words))
-  slash-later d z h e = ap (prefix_len no_slash) (onward-more d z h) ∙ rw e
+-- the words up to the `/` that was found, or all
+module _ (words : List (Bor (List ℕ))) (o : Option ℕ) (s : SomeIff o (slash_at (texts words) < length words) (slash_at (texts words))) where
+  cut : (p : Option ℕ) → o ≡ p → take (unwrap_or p (length words)) (texts words) ≡ take (slash_at (texts words)) (texts words)
+  cut None e =
+      let h : SomeIff None (slash_at (texts words) < length words) (slash_at (texts words)) = rw e at s in
+      let l = length-map words (λ x. x.now) in
+      take_all (length words) (texts words) (omega arith) ∙ sym (take_all (slash_at (texts words)) (texts words) (omega (arith, h)))
+  cut (Some i) e =
+      let h : SomeIff (Some i) (slash_at (texts words) < length words) (slash_at (texts words)) = rw e at s in
+      ap (λ n. take n (texts words)) h.1
 
-  pub slash-none : i ≡ length words → prefix_len no_slash onward ≡ 0
-  slash-none h = ap (prefix_len no_slash) (drop_all i (map (λ x. x.now) words) (omega (arith, length-map words (λ x. x.now))))
+  module _ (n : ℕ) (is : n ≡ unwrap_or o (length words)) where
+    -- the starts stand before it
+    pub started : (r : Result (List ℕ) Trouble) → read_all short_read Bounds.Short 2 (drop 1 (texts (take n words))) ≡ r
+        → net_read (texts words) ≡ with_starts (texts words) (slash_at (texts words)) r
+    started r read =
+        let t : texts (take n words) ≡ take (slash_at (texts words)) (texts words) =
+        sym (take-map (λ x. x.now) n words) ∙ ap (λ j. take j (texts words)) is ∙ cut o refl in
+        ap (λ ws. with_starts (texts words) (slash_at (texts words)) (read_all short_read Bounds.Short 2 (drop 1 ws))) (sym t)
+        ∙ ap (with_starts (texts words) (slash_at (texts words))) read
 
-module _ (words : List (Bor (List ℕ))) (at : ℕ) (starts : List ℕ) (is : at ≡ slash_at (map (λ x. x.now) words))
-    (read : read_all short_read Bounds.Short 2 (drop 1 (take at (map (λ x. x.now) words))) ≡ Ok starts) where
-  net-starts : net_read (map (λ x. x.now) words) ≡ with_starts (map (λ x. x.now) words) at (Ok starts)
-  net-starts =
-      ap (λ n. with_starts (map (λ x. x.now) words) n (read_all short_read Bounds.Short 2 (drop 1 (take n (map (λ x. x.now) words))))) (sym is)
-      ∙ ap (with_starts (map (λ x. x.now) words) at) read
+    -- the rest are the heads
+    pub headed : (starts : List ℕ) → read_all short_read Bounds.Short 2 (drop 1 (texts (take n words))) ≡ Ok starts → (at : ℕ) (r : Result (List ℕ) Trouble) → o ≡ Some at
+        → read_all short_read Bounds.Short (at + 1 + 1) (drop (at + 1) (texts words)) ≡ r → net_read (texts words) ≡ with_heads starts r
+    headed starts read at r e k =
+        let h : SomeIff (Some at) (slash_at (texts words) < length words) (slash_at (texts words)) = rw e at s in
+        let t : ltb (slash_at (texts words)) (length (texts words)) ≡ true = lt-ltb _ _ (omega (arith, h.0, length-map words (λ x. x.now))) in
+        started (Ok starts) read
+        ∙ rw t (ap (λ j. with_heads starts (read_all short_read Bounds.Short (j + 1 + 1) (drop (j + 1) (texts words)))) (sym h.1) ∙ ap (with_heads starts) k)
 
-  -- nothing parts the lists
-  pub net-no-slash : at ≡ length words → net_read (map (λ x. x.now) words) ≡ Err NoSlash
-  net-no-slash h =
-      let f : ltb at (length (map (λ x. x.now) words)) ≡ false = le-ltb _ _ (omega (arith, length-map words (λ x. x.now))) in
-      net-starts ∙ rw f
-
-  -- the rest are the heads
-  pub net-heads : (r : Result (List ℕ) Trouble) → at < length words
-      → read_all short_read Bounds.Short (at + 1 + 1) (drop (at + 1) (take (length words) (map (λ x. x.now) words))) ≡ r → net_read (map (λ x. x.now) words) ≡ with_heads starts r
-  net-heads r h e =
-      let t : ltb at (length (map (λ x. x.now) words)) ≡ true = lt-ltb _ _ (omega (arith, length-map words (λ x. x.now))) in
-      let all : take (length words) (map (λ x. x.now) words) ≡ map (λ x. x.now) words = take_all _ _ (omega (arith, length-map words (λ x. x.now))) in
-      let f = ap (λ ws. read_all short_read Bounds.Short (at + 1 + 1) (drop (at + 1) ws)) (sym all) ∙ e in
-      net-starts ∙ rw t (ap (with_heads starts) f)
+-- a result that is an error
+pub failed : {V T : Type 0} (model : V → T) (told : Result T Trouble) (r : Result V Trouble) (e : Trouble) → r ≡ Err e → (e ≡ Memory) ⊎ (told ≡ Err e) → Got model told r
+failed model told r e h d = rw h d

@@ -1,5 +1,5 @@
 -- The two lists of a `net` line.
-use Rattle.std.specs.Prelude.{ℕ, ◌+◌, Bool, cond, not, List, length, take, drop, Ok, Err, codes, Result, nat_lt}
+use Rattle.std.specs.Prelude.{ℕ, ◌+◌, Bool, if◌then◌else◌, not, List, length, take, drop, Ok, Err, codes, Result, nat_lt}
 use Rattle.std.specs.List.{prefix_len}
 use Rattle.std.specs.Str.{bytes_eq}
 use Rattle.net.specs.Table.{Table, table}
@@ -24,7 +24,7 @@ with_heads starts (Err e) = Err e
 abbrev pub with_starts : List (List ℕ) → ℕ → Result (List ℕ) Trouble → Result Table Trouble
 with_starts ws at (Err e) = Err e
 with_starts ws at (Ok starts) =
-    cond (nat_lt at (length ws)) (with_heads starts (read_all short_read Bounds.Short (at + 1 + 1) (drop (at + 1) ws))) (Err NoSlash)
+    if nat_lt at (length ws) then with_heads starts (read_all short_read Bounds.Short (at + 1 + 1) (drop (at + 1) ws)) else Err NoSlash
 
 abbrev pub net_read : List (List ℕ) → Result Table Trouble
 net_read ws = with_starts ws (slash_at ws) (read_all short_read Bounds.Short 2 (drop 1 (take (slash_at ws) ws)))

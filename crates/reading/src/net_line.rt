@@ -1,7 +1,8 @@
 // The two lists of a `net` line.
-ghost use Rattle.std.specs.Prelude.{◌≡◌, ◌≤◌, map, length};
+ghost use Rattle.std.specs.Prelude.{◌≡◌, ◌<◌, length};
+ghost use Rattle.std.specs.Option.{SomeIff};
 ghost use Rattle.net.specs.Table.{table};
-ghost use Rattle.reading.specs.Reading.{Got};
+ghost use Rattle.reading.specs.Reading.{texts, Got};
 ghost use Rattle.reading.specs.Nets.{slash_at, net_read};
 
 use crate::read::read_all;
@@ -9,37 +10,24 @@ use answers::trouble::Trouble;
 use script::words::reads_as;
 use std::alloc::Global;
 
-// The index of the word `/`, or the number of words where there is none.
-fn slash(words: &[&[u8]]) -> usize
-    requires { 1 ≤ length words.now }
-    ensures is { result ≡ slash_at (map (λ x. x.now) words.now) }
-    ensures within { (1 ≤ result) × (result ≤ length words.now) }
+// The index of the first word `/` after the command.
+fn slash(words: &[&[u8]]) -> Option<usize>
+    ensures { SomeIff result (slash_at (texts words.now) < length words.now) (slash_at (texts words.now)) }
 {
-    for i in 1..words.len() {
-        if reads_as(words[i], "/") {
-            return i;
-        }
-    }
-    words.len()
+    words
+        .iter()
+        .skip(1)
+        .position(|word| reads_as(word, "/"))
+        .map(|i| i + 1)
 }
 
 // The starts and the heads of a `net` line.
 pub fn read_net(heap: Global, words: &[&[u8]]) -> Result<(Vec<u16>, Vec<u16>), Trouble>
-    ensures { Got (λ p. table p.0.items p.1.items) (net_read (map (λ x. x.now) words.now)) result }
+    ensures { Got (λ p. table p.0.items p.1.items) (net_read (texts words.now)) result }
 {
-    if words.is_empty() {
-        return Err(Trouble::NoSlash);
-    }
-    let at = slash(words);
-    let starts = match read_all(heap, words, 1, at) {
-        Ok(starts) => starts,
-        Err(trouble) => return Err(trouble),
-    };
-    if at == words.len() {
-        return Err(Trouble::NoSlash);
-    }
-    match read_all(heap, words, at + 1, words.len()) {
-        Ok(heads) => Ok((starts, heads)),
-        Err(trouble) => Err(trouble),
-    }
+    let slash = slash(words);
+    let starts = read_all(heap, &words[..slash.unwrap_or(words.len())], 1)?;
+    let at = slash.ok_or(Trouble::NoSlash)?;
+    let heads = read_all(heap, words, at + 1)?;
+    Ok((starts, heads))
 }

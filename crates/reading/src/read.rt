@@ -1,8 +1,8 @@
 // Reading values from words.
-ghost use Rattle.std.specs.Prelude.{◌≡◌, ℕ, ◌+◌, ◌≤◌, List, [], map, length, take, drop, vec_items, Option, slice_index_or};
+ghost use Rattle.std.specs.Prelude.{◌≡◌, ℕ, ◌+◌, List, [], drop, vec_items, Option, slice_index_or};
 ghost use Rattle.answers.specs.declared.trouble.Bounds.{Bounds};
 ghost use Rattle.reading.specs.Spelling.{short_read, long_read, airtime_read, chance_reading, margin_read};
-ghost use Rattle.reading.specs.Reading.{read_all, one_read, Got};
+ghost use Rattle.reading.specs.Reading.{texts, read_all, one_read, Got};
 
 use answers::trouble::{Bounds, Trouble};
 use kinds::airtime::Airtime;
@@ -30,10 +30,7 @@ impl Readable for u16 {
     ghost bounds = { Bounds.Short };
 
     fn read(word: &[u8]) -> Option<u16> {
-        match number(word, 65535) {
-            Some(n) => Some(n as u16),
-            None => None,
-        }
+        number(word, 65535).map(|n| n as u16)
     }
 
     fn bounds() -> Bounds {
@@ -47,7 +44,7 @@ impl Readable for u32 {
     ghost bounds = { Bounds.Long };
 
     fn read(word: &[u8]) -> Option<u32> {
-        number(word, 4294967295)
+        number(word, u32::MAX)
     }
 
     fn bounds() -> Bounds {
@@ -61,14 +58,11 @@ impl Readable for Airtime {
     ghost bounds = { Bounds.Long };
 
     fn read(word: &[u8]) -> Option<Airtime> {
-        match number(word, 4294967295) {
-            Some(n) => Some(Airtime::new(n)),
-            None => None,
-        }
+        u32::read(word).map(Airtime::new)
     }
 
     fn bounds() -> Bounds {
-        Bounds::Long
+        u32::bounds()
     }
 }
 
@@ -78,14 +72,11 @@ impl Readable for Chance {
     ghost bounds = { Bounds.Long };
 
     fn read(word: &[u8]) -> Option<Chance> {
-        match number(word, 4294967295) {
-            Some(n) => Some(Chance::read(n)),
-            None => None,
-        }
+        u32::read(word).map(Chance::read)
     }
 
     fn bounds() -> Bounds {
-        Bounds::Long
+        u32::bounds()
     }
 }
 
@@ -95,10 +86,7 @@ impl Readable for Margin {
     ghost bounds = { Bounds.Decibels };
 
     fn read(word: &[u8]) -> Option<Margin> {
-        match decibels(word) {
-            Some(d) => Some(Margin::new(d)),
-            None => None,
-        }
+        decibels(word).map(Margin::new)
     }
 
     fn bounds() -> Bounds {
@@ -106,53 +94,38 @@ impl Readable for Margin {
     }
 }
 
-// The values that the words from one index up to another spell, or what is wrong with the first that spells none.
+// The values that the words from an index on spell, or what is wrong with the first that spells none.
 pub(crate) fn read_all<T: Readable>(
     heap: Global,
     words: &[&[u8]],
     from: usize,
-    to: usize,
 ) -> Result<Vec<T>, Trouble>
-    requires { (from ≤ to) × (to ≤ length words.now) }
-    ensures { Got vec_items (read_all T.Readable.reads T.Readable.bounds (from + 1) (drop from (take to (map (λ x. x.now) words.now)))) result }
+    ensures { Got vec_items (read_all T.Readable.reads T.Readable.bounds (from + 1) (drop from (texts words.now))) result }
 {
     let mut out = Vec::new(heap);
-    for i in from..to {
-        match T::read(words[i]) {
-            Some(x) => out.push(x)?,
-            None => return Err(Trouble::NotNumber(i + 1, T::bounds())),
-        }
+    for (at, word) in words.iter().enumerate().skip(from) {
+        out.push(T::read(word).ok_or(Trouble::NotNumber(at + 1, T::bounds()))?)?;
     }
     Ok(out)
 }
 
 // The values that all words after the first spell.
 pub fn read_rest<T: Readable>(heap: Global, words: &[&[u8]]) -> Result<Vec<T>, Trouble>
-    ensures { Got vec_items (read_all T.Readable.reads T.Readable.bounds 2 (drop 1 (map (λ x. x.now) words.now))) result }
+    ensures { Got vec_items (read_all T.Readable.reads T.Readable.bounds 2 (drop 1 (texts words.now))) result }
 {
-    if words.is_empty() {
-        return Ok(Vec::new(heap));
-    }
-    read_all(heap, words, 1, words.len())
+    read_all(heap, words, 1)
 }
 
 // The word at an index, counted from 0, or one without a byte beyond the last.
 pub fn word_at<'a>(words: &[&'a [u8]], at: u8) -> &'a [u8]
-    ensures { result.now ≡ slice_index_or (map (λ x. x.now) words.now) at [] }
+    ensures { result.now ≡ slice_index_or (texts words.now) at [] }
 {
-    if (at as usize) < words.len() {
-        words[at as usize]
-    } else {
-        b""
-    }
+    words.get(usize::from(at)).copied().unwrap_or(b"")
 }
 
 // The value that the word at an index, counted from 0, spells.
 pub fn read_one<T: Readable>(words: &[&[u8]], at: u8) -> Result<T, Trouble>
-    ensures { result ≡ one_read T.Readable.reads T.Readable.bounds (map (λ x. x.now) words.now) at }
+    ensures { result ≡ one_read T.Readable.reads T.Readable.bounds (texts words.now) at }
 {
-    match T::read(word_at(words, at)) {
-        Some(x) => Ok(x),
-        None => Err(Trouble::NotNumber(at as usize + 1, T::bounds())),
-    }
+    T::read(word_at(words, at)).ok_or(Trouble::NotNumber(usize::from(at) + 1, T::bounds()))
 }

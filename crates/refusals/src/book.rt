@@ -53,6 +53,7 @@ impl Fault for BookFault {
     }
 }
 
+// This is written out, since callers' clauses name the error that `?` makes: a derived `From` has no `from_gives`.
 impl From<ListFault> for BookFault {
     ghost from_gives = { λ e r. r ≡ InList e };
 

@@ -34,6 +34,7 @@ impl Fault for Refusal {
     }
 }
 
+// These are written out, since callers' clauses name the error that `?` makes: a derived `From` has no `from_gives`.
 impl From<NetFault> for Refusal {
     ghost from_gives = { λ e r. r ≡ OfNet e };
 

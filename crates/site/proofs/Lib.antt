@@ -1,4 +1,2 @@
-pub mod Spelt
 pub mod Broken
 pub mod Commanded
-pub mod Slashed

@@ -1,46 +1,33 @@
 -- What each command answers, and what it leaves: the site before, the words of its line, the answer, and the site after.
-use Rattle.std.specs.Prelude.{◌≡◌, ℕ, Bool, cond, ◌⊎◌, List, [], ◌∷◌, length, drop, Some, None, Ok, Err, MatchBool, Option, Result, ◌==◌, slice_index, slice_index_or}
+use Rattle.std.specs.Prelude.{◌≡◌, ℕ, Bool, if◌then◌else◌, ◌⊎◌, List, [], ◌∷◌, length, drop, Some, None, Ok, Err, MatchBool, Option, Result, ◌==◌, slice_index, slice_index_or}
 use Rattle.refusals.specs.declared.net.NetFault.{NetFault}
 use Rattle.refusals.specs.Tells.{net_tells}
 use Rattle.net.specs.Table.{Table, station_count, link_count}
 use Rattle.net.specs.Judged.{net_fault}
-use Rattle.site.specs.declared.answer.Answer.{Answer}
-use Rattle.site.specs.declared.answer.Answer.TheVariants as answer
-use Rattle.site.specs.declared.trouble.Trouble.{Trouble}
-use Rattle.site.specs.declared.trouble.Trouble.TheVariants.{Unknown, NoNet, NoKind, NotPath, Memory}
-use Rattle.site.specs.declared.verb.KindName.{KindName}
-use Rattle.site.specs.declared.verb.Verb.{Verb}
-use Rattle.site.specs.declared.verb.Verb.TheVariants as verb
-use Rattle.site.specs.declared.answer.Label.{Label}
-use Rattle.site.specs.declared.trouble.Bounds.{Bounds}
-use Rattle.site.specs.declared.way.WayFault.{WayFault}
+use Rattle.answers.specs.declared.answer.Answer.{Answer}
+use Rattle.answers.specs.declared.answer.Answer.TheVariants as answer
+use Rattle.answers.specs.declared.trouble.Trouble.{Trouble}
+use Rattle.answers.specs.declared.trouble.Trouble.TheVariants.{Unknown, NoNet, NoKind, NotPath, Memory}
+use Rattle.answers.specs.declared.verb.KindName.{KindName}
+use Rattle.answers.specs.declared.verb.Verb.{Verb}
+use Rattle.answers.specs.declared.verb.Verb.TheVariants as verb
+use Rattle.answers.specs.declared.verb.SiteVerb.TheVariants as asked
+use Rattle.answers.specs.declared.answer.Label.{Label}
+use Rattle.answers.specs.declared.trouble.Bounds.{Bounds}
+use Rattle.answers.specs.declared.fault.WayFault.{WayFault}
 use Rattle.kinds.specs.declared.airtime.Airtime.{Airtime}
 use Rattle.kinds.specs.declared.chance.Chance.{Chance}
 use Rattle.kinds.specs.declared.margin.Margin.{Margin}
 use Rattle.kinds.specs.Shipped.{by_airtime, by_chance, by_margin}
 use Rattle.site.specs.Model.{Model, GradeList, airtimes, chances, margins, grade_count, grades_read, zeros}
 use Rattle.script.specs.Words.{words_of}
-use Rattle.site.specs.Nets.{net_read}
+use Rattle.answers.specs.Outcomes.{Outcome, troubled, answered, Came}
+use Rattle.reading.specs.Nets.{net_read}
 use Rattle.site.specs.Plots.{fresh}
-use Rattle.site.specs.Reading.{read_all}
-use Rattle.site.specs.Spelling.{short_read}
+use Rattle.reading.specs.Reading.{read_all}
+use Rattle.reading.specs.Spelling.{short_read}
 use Rattle.site.specs.Ways.{Proposed}
-use Rattle.site.specs.Verbs.{verb_of, kind_named}
-
--- an answer and what it leaves
-pub record Outcome (M : Type 0) : Type 0 where
-  pub says : Result Answer Trouble
-  pub leaves : M
-
-abbrev pub troubled : {M : Type 0} → Trouble → M → Outcome M
-troubled e m = record { says = Err e; leaves = m }
-
-abbrev pub answered : {M : Type 0} → Answer → M → Outcome M
-answered a m = record { says = Ok a; leaves = m }
-
--- what was to come came, or there was not enough memory and nothing has changed
-abbrev pub Came : {M : Type 0} → Outcome M → M → Result Answer Trouble → M → Type 0
-Came o m r n = ((r ≡ Err Memory) × (n ≡ m)) ⊎ ((r ≡ o.says) × (n ≡ o.leaves))
+use Rattle.answers.specs.Verbs.{verb_of, kind_named}
 
 -- `net`: a new site over the two lists, if they are a net
 abbrev pub judged_net : Option Model → Table → Option NetFault → Outcome (Option Model)
@@ -60,7 +47,7 @@ chosen m None = troubled NoKind m
 chosen m (Some k) = answered (answer.Kind k) (record { links = m.links; grades = zeros k (link_count m.links) })
 
 abbrev pub kind_outcome : Model → List (List ℕ) → Outcome Model
-kind_outcome m ws = cond (length ws == 2) (chosen m (kind_named (slice_index_or ws 1 []))) (troubled NoKind m)
+kind_outcome m ws = if length ws == 2 then chosen m (kind_named (slice_index_or ws 1 [])) else troubled NoKind m
 
 abbrev pub KindLine : Model → List (List ℕ) → Result Answer Trouble → Model → Type 0
 KindLine m ws r n = Came (kind_outcome m ws) m r n
@@ -95,13 +82,23 @@ abbrev pub OnSite : (Model → Result Answer Trouble → Model → Type 0) → O
 OnSite Does None r p = (r ≡ Err NoNet) × (p ≡ None)
 OnSite Does (Some m) r p = (n : Model) × Does m r n × (p ≡ Some n)
 
+-- the words of the list commands are no commands of this program
+abbrev pub Untaken : Option Model → Result Answer Trouble → Option Model → Type 0
+Untaken o r p = (r ≡ Err Unknown) × (p ≡ o)
+
 -- what a line comes to, by its first word
 abbrev pub Commanded : Option Verb → Option Model → List (List ℕ) → Result Answer Trouble → Option Model → Type 0
 Commanded None o ws r p = (r ≡ Err Unknown) × (p ≡ o)
 Commanded (Some verb.Net) o ws r p = NetLine o ws r p
-Commanded (Some verb.Kind) o ws r p = OnSite (λ m s n. KindLine m ws s n) o r p
-Commanded (Some verb.Grades) o ws r p = OnSite (λ m s n. GradesLine m ws s n) o r p
-Commanded (Some verb.Path) o ws r p = OnSite (λ m s n. PathLine m ws s × (n ≡ m)) o r p
+Commanded (Some (verb.Site asked.Kind)) o ws r p = OnSite (λ m s n. KindLine m ws s n) o r p
+Commanded (Some (verb.Site asked.Grades)) o ws r p = OnSite (λ m s n. GradesLine m ws s n) o r p
+Commanded (Some (verb.Site asked.List)) o ws r p = Untaken o r p
+Commanded (Some (verb.Site asked.Path)) o ws r p = OnSite (λ m s n. PathLine m ws s × (n ≡ m)) o r p
+Commanded (Some (verb.Site asked.Poke)) o ws r p = Untaken o r p
+Commanded (Some (verb.Site asked.Enter)) o ws r p = Untaken o r p
+Commanded (Some (verb.Site asked.Pick)) o ws r p = Untaken o r p
+Commanded (Some (verb.Site asked.Empty)) o ws r p = Untaken o r p
+Commanded (Some (verb.Site asked.Waiting)) o ws r p = Untaken o r p
 
 -- a command's answer is the line's
 abbrev pub as_line : Result Answer Trouble → Result (Option Answer) Trouble

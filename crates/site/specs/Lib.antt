@@ -1,11 +1,6 @@
-pub mod Verbs
-pub mod Spelling
-pub mod Reading
 pub mod Ways
 pub mod Model
 pub mod Plots
-pub mod Nets
 pub mod Commands
 pub mod Desks
-pub mod Texts
 pub mod Replies

@@ -7,14 +7,14 @@ use Rattle.kinds.specs.Airtimes.{airtime_of}
 use Rattle.kinds.specs.Chances.{chance_read}
 use Rattle.kinds.specs.Margins.{margin_of}
 use Rattle.net.specs.Table.{Table}
-use Rattle.site.specs.declared.trouble.Bounds.{Bounds}
-use Rattle.site.specs.declared.trouble.Trouble.{Trouble}
-use Rattle.site.specs.Reading.{read_all}
-use Rattle.site.specs.Spelling.{airtime_read, chance_reading, margin_read}
+use Rattle.answers.specs.declared.trouble.Bounds.{Bounds}
+use Rattle.answers.specs.declared.trouble.Trouble.{Trouble}
+use Rattle.reading.specs.Reading.{read_all}
+use Rattle.reading.specs.Spelling.{airtime_read, chance_reading, margin_read}
 use Rattle.site.specs.declared.grades.Grades.{Grades}
 use Rattle.site.specs.declared.grades.Grades.TheVariants.{ByAirtime, ByChance, ByMargin}
-use Rattle.site.specs.declared.verb.KindName.{KindName}
-use Rattle.site.specs.declared.verb.KindName.TheVariants as name
+use Rattle.answers.specs.declared.verb.KindName.{KindName}
+use Rattle.answers.specs.declared.verb.KindName.TheVariants as name
 
 pub data GradeList : Type 0 where
   airtimes : List Airtime → GradeList

@@ -5,7 +5,7 @@ use Rattle.net.specs.Judged.{net_fault}
 use Rattle.site.specs.declared.plot.Site.{Site}
 use Rattle.site.specs.declared.plot.acts.NotOpened.{NotOpened}
 use Rattle.site.specs.declared.plot.acts.NotOpened.TheVariants.{Refused, Memory}
-use Rattle.site.specs.declared.verb.KindName.TheVariants as name
+use Rattle.answers.specs.declared.verb.KindName.TheVariants as name
 use Rattle.site.specs.Model.{Model, grades_in, zeros}
 
 abbrev pub model_of : Site → Model

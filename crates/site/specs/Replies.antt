@@ -2,11 +2,11 @@
 use Rattle.std.specs.Prelude.{◌≡◌, ℕ, List, Some, None, Ok, Err, string_bytes, Option, Result, String}
 use Rattle.std.specs.declared.alloc.AllocError.{AllocError}
 use Rattle.std.specs.declared.alloc.Global.{Global}
-use Rattle.site.specs.declared.answer.Answer.{Answer}
-use Rattle.site.specs.declared.trouble.Trouble.{Trouble}
+use Rattle.answers.specs.declared.answer.Answer.{Answer}
+use Rattle.answers.specs.declared.trouble.Trouble.{Trouble}
 use Rattle.site.specs.Commands.{Obeyed, as_line}
 use Rattle.site.specs.Model.{Model}
-use Rattle.site.specs.Texts.{answer_text, error_text}
+use Rattle.answers.specs.Texts.{answer_text, error_text}
 
 -- the text of what line n came to
 abbrev pub reply_text : ℕ → Result Answer Trouble → List ℕ

@@ -7,8 +7,8 @@ use Rattle.paths.specs.declared.grade.NotPath.TheVariants as path
 use Rattle.paths.specs.Answer.{breaks}
 use Rattle.paths.specs.Grade.{path_grade}
 use Rattle.paths.specs.Path.{PathFrom}
-use Rattle.site.specs.declared.way.WayFault.{WayFault}
-use Rattle.site.specs.declared.way.WayFault.TheVariants.{Grades, NoLink, Parted}
+use Rattle.answers.specs.declared.fault.WayFault.{WayFault}
+use Rattle.answers.specs.declared.fault.WayFault.TheVariants.{Grades, NoLink, Parted}
 
 -- where a way begins: at the tail of its first link, or at station 0 where it has none
 abbrev pub beginning : Table → List ℕ → ℕ

@@ -1,16 +1,16 @@
 // Carrying out a script line by line.
-ghost use Rattle.std.specs.Prelude.{◌≡◌, ◌≤◌, map, length, None};
+ghost use Rattle.std.specs.Prelude.{◌≡◌, None, Some};
+ghost use Rattle.reading.specs.Reading.{texts};
 ghost use Rattle.site.specs.Commands.{NetLine, Commanded, comment, Obeys, Obeyed};
 ghost use Rattle.site.specs.Desks.{desk_of};
 ghost use Rattle.site.specs.Replies.{Replied};
 
-use crate::answer::Answer;
-use crate::lists::read_net;
 use crate::plot::Site;
 use crate::plot::acts::NotOpened;
-use crate::text::{answer_text, error_text};
-use crate::trouble::Trouble;
-use crate::verb::{Verb, verb_of};
+use answers::answer::Answer;
+use answers::trouble::{Failed, Trouble};
+use answers::verb::{SiteVerb, Verb};
+use reading::net_line::read_net;
 use refusals::told::Fault;
 use script::words::words;
 use std::alloc::{AllocError, Global};
@@ -30,13 +30,9 @@ impl Desk {
 
     // Opens a new site, if the lists are a net; else all stays as it was.
     fn open(&mut self, heap: Global, words: &[&[u8]]) -> Result<Answer, Trouble>
-        requires { 1 ≤ length words.now }
-        ensures { NetLine (desk_of self.old) (map (λ x. x.now) words.now) result (desk_of self.new) }
+        ensures { NetLine (desk_of self.old) (texts words.now) result (desk_of self.new) }
     {
-        let (starts, heads) = match read_net(heap, words) {
-            Ok(lists) => lists,
-            Err(trouble) => return Err(trouble),
-        };
+        let (starts, heads) = read_net(heap, words)?;
         match Site::open(heap, starts, heads) {
             Ok(site) => {
                 let answer = Answer::Net(site.stations(), site.links());
@@ -49,46 +45,40 @@ impl Desk {
     }
 
     // Carries out a command, whose words these are.
-    fn command(
-        &mut self,
-        heap: Global,
-        words: &[&[u8]],
-        verb: Option<Verb>,
-    ) -> Result<Answer, Trouble>
-        requires { 1 ≤ length words.now }
-        ensures { Commanded verb (desk_of self.old) (map (λ x. x.now) words.now) result (desk_of self.new) }
+    fn command(&mut self, heap: Global, words: &[&[u8]], verb: Verb) -> Result<Answer, Trouble>
+        ensures { Commanded (Some verb) (desk_of self.old) (texts words.now) result (desk_of self.new) }
     {
         match verb {
-            None => Err(Trouble::Unknown),
-            Some(Verb::Net) => self.open(heap, words),
-            Some(Verb::Kind) => match &mut self.site {
-                Some(site) => site.choose(heap, words),
-                None => Err(Trouble::NoNet),
-            },
-            Some(Verb::Grades) => match &mut self.site {
-                Some(site) => site.take_grades(heap, words),
-                None => Err(Trouble::NoNet),
-            },
-            Some(Verb::Path) => match &self.site {
-                Some(site) => site.path(heap, words),
-                None => Err(Trouble::NoNet),
-            },
+            Verb::Net => self.open(heap, words),
+            Verb::Site(SiteVerb::Kind) => self
+                .site
+                .as_mut()
+                .ok_or(Trouble::NoNet)?
+                .choose(heap, words),
+            Verb::Site(SiteVerb::Grades) => self
+                .site
+                .as_mut()
+                .ok_or(Trouble::NoNet)?
+                .take_grades(heap, words),
+            Verb::Site(SiteVerb::Path) => self
+                .site
+                .as_ref()
+                .ok_or(Trouble::NoNet)?
+                .path(heap, words),
+            // The program does not take the list commands yet.
+            Verb::Site(_) => Err(Trouble::Unknown),
         }
     }
 
     // Carries out a line, whose words these are; a line without a word and a comment have no answer.
     fn follow(&mut self, heap: Global, words: &[&[u8]]) -> Result<Option<Answer>, Trouble>
-        ensures { Obeys (desk_of self.old) (map (λ x. x.now) words.now) result (desk_of self.new) }
+        ensures { Obeys (desk_of self.old) (texts words.now) result (desk_of self.new) }
     {
-        if words.is_empty() {
-            return Ok(None);
-        }
-        if is_comment(words[0]) {
-            return Ok(None);
-        }
-        match self.command(heap, words, verb_of(words[0])) {
-            Ok(answer) => Ok(Some(answer)),
-            Err(trouble) => Err(trouble),
+        match words.first() {
+            Some(word) if !is_comment(word) => {
+                self.command(heap, words, Verb::try_from(*word)?).map(Some)
+            }
+            _ => Ok(None),
         }
     }
 
@@ -111,14 +101,14 @@ impl Desk {
     {
         match self.obey(heap, line) {
             Ok(None) => Ok(None),
-            Ok(Some(answer)) => match answer_text(heap, answer) {
-                Ok(text) => Ok(Some(text)),
-                Err(error) => Err(error),
-            },
-            Err(trouble) => match error_text(heap, number, trouble) {
-                Ok(text) => Ok(Some(text)),
-                Err(error) => Err(error),
-            },
+            Ok(Some(answer)) => format!(in heap; "{answer}").map(Some),
+            Err(trouble) => {
+                let failed = Failed {
+                    line: number,
+                    trouble,
+                };
+                format!(in heap; "{failed}").map(Some)
+            }
         }
     }
 }
@@ -127,5 +117,5 @@ impl Desk {
 fn is_comment(word: &[u8]) -> bool
     ensures { result ≡ comment word.now }
 {
-    !word.is_empty() && word[0] == b'#'
+    word.first() == Some(&b'#')
 }

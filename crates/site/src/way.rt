@@ -4,31 +4,18 @@ ghost use Rattle.paths.specs.Answer.{not_path};
 ghost use Rattle.net.specs.View.{table_of};
 ghost use Rattle.site.specs.Ways.{beginning, Faulted, Proposed};
 
+use answers::fault::WayFault;
 use kinds::kind::Kind;
 use net::star::Net;
 use paths::grade::{NotPath, grade_path};
-
-// Why a proposed way has no grade.
-#[derive(Clone, Copy, Debug, PartialEq, Eq)]
-pub enum WayFault {
-    // There are so many grades for so many links.
-    Grades(usize, usize),
-    // There is no such link.
-    NoLink(u16),
-    // The first link does not begin where the second, which stands before it, ends.
-    Parted(u16, u16),
-}
 
 // Where a way begins: at the tail of its first link, or at station 0 where it has none.
 fn beginning_of(net: &Net, way: &[u16]) -> u16
     ensures { result ≡ beginning (table_of net.now) way.now }
 {
-    if way.is_empty() {
-        return 0;
-    }
-    match net.tail(way[0]) {
-        Some(tail) => tail,
-        None => 0,
+    match way {
+        [first, ..] => net.tail(*first).unwrap_or(0),
+        [] => 0,
     }
 }
 
@@ -53,6 +40,7 @@ pub(crate) fn propose<K: Kind>(
 ) -> Result<K::Label, WayFault>
     ensures { Proposed K.Kind (table_of net.now) grades.now way.now result }
 {
+    // A match, since a closure for `map_err` would have to say again what `fault_of` requires and ensures.
     match grade_path::<K>(net, grades, beginning_of(net, way), way) {
         Ok(label) => Ok(label),
         Err(found) => Err(fault_of(net, grades.len(), way, found)),

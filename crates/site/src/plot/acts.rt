@@ -6,7 +6,7 @@ ghost use Rattle.site.specs.Plots.{model_of, Opens};
 
 use super::Site;
 use crate::grades::zero_grades;
-use crate::verb::KindName;
+use answers::verb::KindName;
 use net::star::Net;
 use refusals::net::NetFault;
 use std::alloc::{AllocError, Global};

@@ -1,10 +1,11 @@
-use Rattle.std.proofs.Common.{◌≡◌, ◌+◌, map, take, drop, vec_items}
-use Rattle.reading.specs.Reading.{read_all}
+use Rattle.std.proofs.Common.{◌≡◌, ◌+◌, drop, length, vec_items}
+use Rattle.reading.specs.Reading.{texts, read_all}
 use Rattle.reading.proofs.Spelt.{after}
 use Rattle.reading.proofs.read.read_all.Given as goal
 
-abbrev pub invariant-loop-i : goal.invariant-loop-i
-invariant-loop-i g l =
+abbrev pub invariant-loop-at : goal.invariant-loop-at
+invariant-loop-at g l =
     let k = g.T.Readable in
-    let ws = take l.to (map (λ x. x.now) l.words) in
-    read_all k.reads k.bounds (l.from + 1) (drop l.from ws) ≡ after (vec_items l.out) (read_all k.reads k.bounds (l.i + 1) (drop l.i ws))
+    let ws = texts l.words in
+    let i = l.from + length l.yielded in
+    read_all k.reads k.bounds (l.from + 1) (drop l.from ws) ≡ after (vec_items l.out) (read_all k.reads k.bounds (i + 1) (drop i ws))

@@ -1,6 +1,0 @@
-use Rattle.std.proofs.Common.{sym, ap}
-use Rattle.answers.specs.Texts.{bounds_text}
-use Rattle.answers.proofs.text.bounds_text.Goals as goal
-
-pub returns-in-Decibels : goal.returns-in-Decibels
-returns-in-Decibels c = ap bounds_text (sym c.in-Decibels.is)
