@@ -1,14 +1,14 @@
 -- Going along a list of links: where it breaks off, and that it is a path where it does not.
-use Rattle.std.proofs.Common.{◌≡◌, ℕ, ◌+◌, ◌<◌, ◌≤◌, true, false, eqb, List, [], ◌∷◌, length, get_or, drop, Some, None, fold, refl, ap, ◌∙◌, subst, inl, inr}
+use Rattle.std.proofs.Common.{◌≡◌, ℕ, ◌+◌, ◌<◌, ◌≤◌, List, [], ◌∷◌, length, get_or, drop, Some, None, fold, refl, ap, ◌∙◌, subst, inl, inr}
 use Rattle.std.proofs.lemmas.List.{drop_more, drop_all}
 use Rattle.std.proofs.lemmas.Option.{slice_get_read}
 use Rattle.kinds.specs.declared.kind.Kind.{Ghosts}
 use Rattle.std.proofs.lemmas.Bool.{cases_lt, cases_eq, lt-ltb, le-ltb, eq-eqb, ne_eqb}
 use Rattle.net.specs.Table.{Table, ForwardStar, station_count, link_count, head_at, head_of, tail_at}
-use Rattle.net.proofs.Heads.{head-found, head-missing}
+use Rattle.net.proofs.Heads.{head-missing}
 use Rattle.net.proofs.Tails.{lands, tail-leaves}
 use Rattle.paths.specs.declared.grade.NotPath.{NotPath}
-use Rattle.paths.specs.declared.grade.NotPath.TheVariants.{NoLink, Parted}
+use Rattle.paths.specs.declared.grade.NotPath.TheVariants.{NoLink}
 use Rattle.paths.specs.Path.{Leads, PathFrom}
 use Rattle.paths.specs.Answer.{breaks, not_path}
 use Rattle.paths.specs.Grade.{through, carried_over, path_grade}
@@ -49,10 +49,9 @@ module _ {t : Table} (star : ForwardStar t) where
 
   -- with one grade per link and a station to begin at, the reason is where the list breaks off
   pub refused-broken : (count a : ℕ) (p : List ℕ) {e : NotPath} → count ≡ link_count t → a < station_count t → breaks t 0 a p ≡ Some e
-      → (count ≡ link_count t → PathFrom t a p → ⊥) × (not_path t count a p ≡ Some e)
+      → count ≡ link_count t → PathFrom t a p → ⊥
   refused-broken count a p {e} n h broken =
-      let told : not_path t count a p ≡ Some e = rw (eq-eqb count (link_count t) n, lt-ltb a (station_count t) h) broken in
-      (refused-no-path count a p e told, told)
+      refused-no-path count a p e (rw (eq-eqb count (link_count t) n, lt-ltb a (station_count t) h) broken)
 
 -- One step: a path from station `from` has come to station a, and the link at place i is next.
 module _ (t : Table) (from : ℕ) (way : List ℕ) (i a : ℕ) (here : i < length way) (known : breaks t 0 from way ≡ breaks t i a (drop i way)) where
@@ -62,15 +61,6 @@ module _ (t : Table) (from : ℕ) (way : List ℕ) (i a : ℕ) (here : i < lengt
 
   pub breaks-no-link : None ≡ head_of t at → breaks t 0 from way ≡ Some (NoLink i)
   breaks-no-link e = known ∙ rw (drop_more way i 0 here, le-ltb at (link_count t) (head-missing t at e))
-
-  pub breaks-parted : (v : ℕ) → Some v ≡ head_of t at → false ≡ eqb (tail_at t at) a → breaks t 0 from way ≡ Some (Parted i)
-  breaks-parted v e f = known ∙ rw (drop_more way i 0 here, lt-ltb at (link_count t) (head-found t at v e).0, ← f)
-
-  pub breaks-on : (v : ℕ) → Some v ≡ head_of t at → true ≡ eqb (tail_at t at) a
-      → breaks t 0 from way ≡ breaks t (i + 1) v (drop (i + 1) way)
-  breaks-on v e f =
-      let (link, is) = head-found t at v e in
-      known ∙ rw (drop_more way i 0 here, lt-ltb at (link_count t) link, ← f, is)
 
 -- at the end it has broken off nowhere
 pub breaks-end : (t : Table) (from : ℕ) (way : List ℕ) (i a : ℕ) → length way ≤ i
@@ -86,8 +76,3 @@ module _ {K L G : Type 0} (k : Ghosts K L G) (grades : List G) (way : List ℕ) 
   grade-on y g here h e is known =
       let read = slice_get_read grades (length grades) (get_or way i 0) g refl h e in
       known ∙ rw (drop_more way i 0 here, is) (ap (λ o. fold (through k grades) (carried_over k x o) (drop (i + 1) way)) read)
-
-  -- at the end it is the grade
-  pub grade-end : length way ≤ i → path_grade k grades way ≡ fold (through k grades) (Some x) (drop i way)
-      → path_grade k grades way ≡ Some x
-  grade-end done known = known ∙ rw (drop_all i way done)

@@ -1,11 +1,10 @@
 -- Going along a list of links with a mark at each station met: it is a simple path where every link leads to a station without one.
-use Rattle.std.proofs.Common.{◌≡◌, ℕ, zero, suc, ◌+◌, ◌<◌, ◌≤◌, Bool, true, false, not, ◌&&◌, eqb, ltb, List, [], ◌∷◌, map, length, get_or, drop, set, replicate, Some, None, Decides, Option, sym, refl, ap, ◌∙◌, subst, inl, inr, arith, length-set, get_or-set_other, get_or-set_same, MatchOption}
+use Rattle.std.proofs.Common.{◌≡◌, ℕ, zero, suc, ◌<◌, ◌≤◌, Bool, true, false, not, ◌&&◌, eqb, ltb, List, [], ◌∷◌, map, length, get_or, drop, set, replicate, Decides, sym, refl, ap, ◌∙◌, subst, inl, inr, arith, length-set, get_or-set_other, get_or-set_same}
 use lib.ListN.{length-replicate}
-use Rattle.std.proofs.lemmas.List.{drop_more, drop_all}
-use Rattle.std.proofs.lemmas.Bool.{and_parts, and_from, lt-ltb, le-ltb, ltb-true, eq-eqb, eqb-true, not-true, not_from_false, both_ways}
+use Rattle.std.proofs.lemmas.List.{drop_all}
+use Rattle.std.proofs.lemmas.Bool.{and_parts, and_from, lt-ltb, ltb-true, eq-eqb, eqb-true, not-true, not_from_false, both_ways}
 use Rattle.std.proofs.lemmas.Bool.Decides.{Decides-at}
-use Rattle.net.specs.Table.{Table, ForwardStar, Leaves, station_count, link_count, head_at, head_of, tail_at}
-use Rattle.net.proofs.Heads.{head-found, head-missing}
+use Rattle.net.specs.Table.{Table, ForwardStar, Leaves, station_count, link_count, head_at, tail_at}
 use Rattle.net.proofs.Tails.{lands, tail-is}
 use Rattle.paths.specs.Lists.{In, NoDup}
 use Rattle.paths.specs.Path.{Leads, PathFrom, stations_on}
@@ -97,40 +96,11 @@ onward-decides {t} star way n a room some w = (
   simple-onward t way n a (tail-is star _ a w),
 )
 
--- the first link of a simple path is one
-pub simple-first : (t : Table) (way : List ℕ) → Simple t way → get_or way 0 0 < link_count t
-simple-first t [] s = absurd (omega (arith, s.some))
-simple-first t (l ∷ p) s = s.leads.0
-
--- so a way begins where the tail of its first link was found, and is no simple path where none was
-pub begins-at : (t : Table) (way : List ℕ) (l : ℕ) (found : Option ℕ) → 0 < length way → l ≡ get_or way 0 0
-    → MatchOption found (link_count t ≤ l) (λ s. Leaves t l s) → MatchOption found (Simple t way → ⊥) (λ s. (0 < length way) × Leaves t (get_or way 0 0) s)
-begins-at t way l None some e past = λ s. omega (arith, simple-first t way s)
-begins-at t way l (Some s) some e w = (some, subst (λ x. Leaves t x s) e w)
-
 -- One step: what is left from place i on, at station a with the marks m, decides P.
 module _ {P : Type 0} (t : Table) (m : List Bool) (way : List ℕ) (i a : ℕ) (known : Decides (onward t m a (drop i way)) P) where
   -- the link there
   abbrev at : ℕ
   at = get_or way i 0
-
-  pub stop-no-link : i < length way → None ≡ head_of t at → Decides false P
-  stop-no-link here e = Decides-at _ _ (rw (drop_more way i 0 here, le-ltb at (link_count t) (head-missing t at e))) known
-
-  pub stop-parted : i < length way → (v : ℕ) → Some v ≡ head_of t at → false ≡ eqb (tail_at t at) a → Decides false P
-  stop-parted here v e f =
-      Decides-at _ _ (rw (drop_more way i 0 here, lt-ltb at (link_count t) (head-found t at v e).0, ← f)) known
-
-  pub stop-met : i < length way → (v : ℕ) → Some v ≡ head_of t at → true ≡ eqb (tail_at t at) a → get_or m v false ≡ true → Decides false P
-  stop-met here v e f met =
-      let (link, is) = head-found t at v e in
-      Decides-at _ _ (rw (drop_more way i 0 here, lt-ltb at (link_count t) link, ← f, ← is, met)) known
-
-  pub go_on : i < length way → (v : ℕ) → Some v ≡ head_of t at → true ≡ eqb (tail_at t at) a → get_or m v false ≡ false
-      → Decides (onward t (set m v true) v (drop (i + 1) way)) P
-  go_on here v e f met =
-      let (link, is) = head-found t at v e in
-      Decides-at _ _ (rw (drop_more way i 0 here, lt-ltb at (link_count t) link, ← f, ← is, met)) known
 
   pub at-end : length way ≤ i → Decides true P
   at-end done = Decides-at _ _ (rw (drop_all i way done)) known

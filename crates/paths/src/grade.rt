@@ -30,7 +30,7 @@ pub fn grade_path<K: Kind>(
     from: u16,
     way: &[u16],
 ) -> Result<K::Label, NotPath>
-    ensures path { MatchResult result (λ _. (length grades.now ≡ link_count (table_of net.now)) × PathFrom (table_of net.now) from way.now) (λ _. length grades.now ≡ link_count (table_of net.now) → PathFrom (table_of net.now) from way.now → ⊥) }
+    ensures path { MatchResult result (λ _. (length grades.now ≡ link_count (table_of net.now)) × PathFrom (table_of net.now) from way.now) (λ _. length grades.now ≡ link_count (table_of net.now) → ¬ PathFrom (table_of net.now) from way.now) }
     ensures told { MatchResult result (λ x. path_grade K.Kind grades.now way.now ≡ Some x) (λ e. not_path (table_of net.now) (length grades.now) from way.now ≡ Some e) }
 {
     if grades.len() != net.links() as usize {
@@ -41,12 +41,12 @@ pub fn grade_path<K: Kind>(
     }
     let mut at = from;
     let mut label = K::start();
-    for (i, link) in way.iter().enumerate() {
-        let head = net.head(*link).ok_or(NotPath::NoLink(i))?;
-        if !leaves(net, *link, at) {
+    for (i, &link) in way.iter().enumerate() {
+        let head = net.head(link).ok_or(NotPath::NoLink(i))?;
+        if !leaves(net, link, at) {
             return Err(NotPath::Parted(i));
         }
-        label = K::carry(label, grades[*link as usize]);
+        label = K::carry(label, grades[link as usize]);
         at = head;
     }
     Ok(label)

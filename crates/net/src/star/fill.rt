@@ -56,7 +56,7 @@ impl<'a> Net<'a> {
     // Makes this net the view of the two lists. Where they are no net, it says why and stays as it was.
     pub fn fill(&mut self, starts: &'a [u16], heads: &'a [u16]) -> Result<(), NetFault>
         ensures told { result ≡ judged (net_fault (table starts.now heads.now)) }
-        ensures lawful { MatchResult result (λ _. ForwardStar (table starts.now heads.now)) (λ _. ForwardStar (table starts.now heads.now) → ⊥) }
+        ensures lawful { MatchResult result (λ _. ForwardStar (table starts.now heads.now)) (λ _. ¬ ForwardStar (table starts.now heads.now)) }
         ensures view { MatchResult result (λ _. (self.new.starts ≡ starts.entry) × (self.new.heads ≡ heads.entry)) (λ _. self.new ≡ self.old) }
     {
         tested(starts, heads)?;
