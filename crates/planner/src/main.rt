@@ -21,18 +21,11 @@ and the script goes on.
 ";
 
 // Answers a script line by line, so that each answer is out before the next line is waited for.
-fn serve<R: BufRead>(rt: &HostRuntime, reader: &mut R) -> anyhow::Result<()> {
+fn serve<R: BufRead + Drop>(rt: &HostRuntime, reader: R) -> anyhow::Result<()> {
     let heap = rt.alloc();
     let mut desk = Desk::new();
-    let mut line = Vec::new(heap);
-    for number in 1..u64::MAX {
-        line.clear();
-        if reader.read_until(b'\n', &mut line)? == 0 {
-            break;
-        }
-        if line.last().copied() == Some(b'\n') {
-            let _ = line.pop();
-        }
+    for (number, line) in (1..).zip(reader.split(heap, b'\n')) {
+        let line = line?;
         if let Some(text) = desk.reply(heap, number, line.as_slice())? {
             println!(rt; "{text}")?;
         }
@@ -43,7 +36,7 @@ fn serve<R: BufRead>(rt: &HostRuntime, reader: &mut R) -> anyhow::Result<()> {
 fn run(rt: &HostRuntime) -> anyhow::Result<()> {
     let mut args = env::args(rt)?.skip(1);
     let Some(path) = args.next() else {
-        return serve(rt, &mut BufReader::new(rt.alloc(), rt.stdin())?);
+        return serve(rt, BufReader::new(rt.alloc(), rt.stdin())?);
     };
     if args.next().is_some() {
         return Err(anyhow!("one script at a time: planner [--help | FILE]"));
@@ -54,7 +47,7 @@ fn run(rt: &HostRuntime) -> anyhow::Result<()> {
     }
     serve(
         rt,
-        &mut BufReader::new(rt.alloc(), fs::open(rt, path.as_str())?)?,
+        BufReader::new(rt.alloc(), fs::open(rt, path.as_str())?)?,
     )
 }
 
