@@ -27,6 +27,7 @@ impl ListName {
         ListName::Bucket,
     ];
 
+    // The name as a text, beside `Display`: `try_from` compares words with it, which would else need a String.
     pub fn word(self) -> &'static str
         ensures { result.now ≡ list_word self }
     {
@@ -52,13 +53,7 @@ impl From<ListName> for u8 {
     ghost from_gives = { λ name n. n ≡ list_number name };
 
     fn from(name: ListName) -> u8 {
-        match name {
-            ListName::FirstIn => 0,
-            ListName::TwoEnded => 1,
-            ListName::SmallLabel => 2,
-            ListName::Threshold => 3,
-            ListName::Bucket => 4,
-        }
+        name as u8
     }
 }
 

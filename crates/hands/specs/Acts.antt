@@ -25,10 +25,10 @@ handed_over None ls = ls
 handed_over (Some n) ls = take n ls
 
 abbrev pub with_list : {L G : Type 0} → HeldBy L G → AnyModel L G → HeldBy L G
-with_list h m = record { grades = h.grades; labels = h.labels; list = m }
+with_list h m = record h { list = m }
 
 abbrev pub with_labels : {L G : Type 0} → HeldBy L G → List L → HeldBy L G
-with_labels h ls = record { grades = h.grades; labels = ls; list = h.list }
+with_labels h ls = record h { labels = ls }
 
 -- a command that takes no words after its own
 abbrev pub bare : {M : Type 0} → Shape → List (List ℕ) → M → Outcome M → Outcome M
