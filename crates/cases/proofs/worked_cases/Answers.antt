@@ -1,6 +1,5 @@
-use Rattle.std.proofs.Common.{refl}
 use Rattle.cases.proofs.Computed.{all-stand}
 use Rattle.cases.proofs.worked_cases.Goals as goal
 
-pub returns : goal.returns
-returns c = record { count = refl; stand = all-stand }
+pub returns-clause-stand : goal.returns-clause-stand
+returns-clause-stand c = all-stand

@@ -9,7 +9,7 @@ invariant_of-self c =
     let s = unrefused-star (table c.args.starts.now c.args.heads.now) (judged-ok _ _ c.in_ok-tested.ensures) in
     record { some = s.some; few = s.few; light = s.light; first = s.first; rising = s.rising; last = s.last; within = s.within }
 
-pub returns-in_err-tested : goal.returns-in_err-tested
-returns-in_err-tested c =
-    let t : c.from_residual.result ≡ judged (net_fault (table c.args.starts.now c.args.heads.now)) = search rules in
-    record { told = t; lawful = judged-star _ _ t; view = search rules }
+pub returns-in_err-tested-clause-lawful : goal.returns-in_err-tested-clause-lawful
+returns-in_err-tested-clause-lawful c =
+    let told : c.from_residual.result ≡ judged (net_fault (table c.args.starts.now c.args.heads.now)) = search rules in
+    judged-star _ _ told
