@@ -1,12 +1,10 @@
 // What the threshold list does.
-ghost use Rattle.std.specs.Prelude.{◌≡◌, false, not, ◌||◌, [], filter};
-ghost use Rattle.std.specs.Option.{option_map, unwrap_or};
+ghost use Rattle.std.specs.Prelude.{◌≡◌, not, [], filter};
+ghost use Rattle.std.specs.Option.{option_map};
 ghost use Rattle.std.specs.List.{slice_get};
-ghost use Rattle.lists.specs.Meaning.{count_below};
 ghost use Rattle.lists.specs.Order.{waits_by, emptied_by, entered_by, picked_by};
 ghost use Rattle.lists.specs.Thresholds.{queues_of};
 ghost use Rattle.lists.specs.Queues.{line_of};
-ghost use Rattle.lists.specs.Stations.{holds, Apart};
 ghost use Rattle.kinds.specs.declared.kind.Kind.{Ghosts};
 ghost use Rattle.lists.specs.Orders.{lawful-by};
 ghost use Rattle.lists.specs.ThresholdsLemmas.{Sound, threshold-laws};
