@@ -1,12 +1,11 @@
--- Chains whose ends are tied to themselves, and which no station is in.
-use Rattle.std.proofs.Common.{◌≡◌, ℕ, ◌+◌, ◌<◌, ◌≤◌, List, [], length, map, set, is_some, Some, None, Option, slice_index, slice_index_or, replicate, sym, refl, ap, ◌∙◌, ⊎_elim, arith}
+-- Chains whose nodes are each tied to itself, and which no station is in.
+use Rattle.std.proofs.Common.{◌≡◌, ℕ, ◌+◌, ◌<◌, ◌≤◌, List, [], is_some, Some, None, Option, slice_index, slice_index_or, replicate, sym, refl, ap, ◌∙◌, ⊎_elim, arith}
 use Rattle.std.specs.Option.{ForSome}
-use Rattle.std.proofs.lemmas.List.{get_or-replicate, get_or_past, get_or-set_same, get_or-set_other, length-replicate, length-map, map-set}
-use Rattle.std.proofs.lemmas.Bool.{cases_eq, cases_lt}
+use Rattle.std.proofs.lemmas.List.{get_or-replicate, get_or_past, length-replicate}
+use Rattle.std.proofs.lemmas.Bool.{cases_lt}
 use Rattle.lists.specs.Meaning.{count_below}
 use Rattle.lists.specs.Counts.{count_none}
 use Rattle.buckets.specs.Ties.{is_home}
-use Rattle.buckets.specs.declared.node.Node.{Node}
 use Rattle.buckets.specs.LinksLemmas.{Settled, settled}
 
 -- every station in no chain
@@ -16,10 +15,10 @@ no_homes = replicate 1024 None
 homeless : (k : ℕ) → slice_index_or no_homes k None ≡ None
 homeless k = ⊎_elim (λ l. get_or-replicate 1024 k None None l) (λ (g : 1024 ≤ k). get_or_past no_homes k None (omega (arith, length-replicate {A = Option ℕ} 1024 None))) (cases_lt k 1024)
 
-pub fresh-settled : (next prev : List ℕ) → ((k : ℕ) → 1024 ≤ k → k < 1088 → slice_index next k ≡ k) → ((k : ℕ) → 1024 ≤ k → k < 1088 → slice_index prev k ≡ k) → Settled next prev no_homes (λ b. [])
+pub fresh-settled : (next prev : List ℕ) → ((k : ℕ) → k < 1088 → slice_index next k ≡ k) → ((k : ℕ) → k < 1088 → slice_index prev k ≡ k) → Settled next prev no_homes (λ b. [])
 fresh-settled next prev n p =
     settled next prev no_homes (λ b. [])
-    (λ b l. (n (1024 + b) (omega arith) (omega arith), p (1024 + b) (omega arith) (omega arith)))
+    (λ b l. (n (1024 + b) (omega arith), p (1024 + b) (omega arith)))
     (λ b l. refl)
     (λ b l k. sym (ap (λ o. is_home o b) (homeless k)))
 
@@ -28,12 +27,3 @@ fresh-within k b e = let never : ◌≡◌ {A = Option ℕ} None (Some b) = sym 
 
 pub fresh-counts : 0 ≡ count_below (λ k. is_some (slice_index_or no_homes k None)) 1024
 fresh-counts = sym (count_none (λ k. is_some (slice_index_or no_homes k None)) 1024 (λ k. ap is_some (homeless k)))
-
--- ends tied to themselves, and one more, either way
-pub tied_more : (f : Node → ℕ) (nodes : List Node) (i : ℕ) (n : Node) → i < length nodes → f n ≡ i → ((k : ℕ) → 1024 ≤ k → k < i → slice_index (map f nodes) k ≡ k) → (k : ℕ) → 1024 ≤ k → k < i + 1 → slice_index (map f (set nodes i n)) k ≡ k
-tied_more f nodes i n l e tied k g h =
-    ap (λ q. slice_index q k) (map-set f nodes i n) ∙
-    ⊎_elim
-    (λ (same : k ≡ i). ap (slice_index (set (map f nodes) i (f n))) same ∙ get_or-set_same (map f nodes) i (f n) 0 (omega (arith, l, length-map nodes f)) ∙ e ∙ sym same)
-    (λ (ne : k ≡ i → ⊥). get_or-set_other (map f nodes) i k (f n) 0 ne ∙ tied k g (omega arith))
-    (cases_eq k i)

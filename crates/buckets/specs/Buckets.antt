@@ -1,6 +1,7 @@
 -- The order of the bucket list: a station waits in the bucket of its label's rank, behind those that came there before it, and a pick
 -- searches the buckets upwards and round, from the bucket of the last pick on.
 use Rattle.std.specs.Prelude.{ℕ, ◌+◌, ◌/◌, ◌%◌, Bool, ◌||◌, List, [], length, replicate, Some, None, Option, ◌==◌, nat_lt, slice_index_or, slice_set}
+use Rattle.std.specs.Option.{option_map_or}
 use Rattle.std.specs.List.{slice_get}
 use Rattle.lists.specs.Order.{Order}
 use Rattle.lists.specs.Stations.{top_of, rest_of}
@@ -42,8 +43,7 @@ picked_at m (Some b) = (top_of (slice_index_or m.rows b []), record { rows = sli
 module _ {A : Type 0} (rank : A → ℕ) where
   -- a label that was not handed over has rank 0
   abbrev pub rank_of : Option A → ℕ
-  rank_of None = 0
-  rank_of (Some a) = rank a
+  rank_of label = option_map_or rank label 0
 
   abbrev pub buckets : Order BucketRing A
   buckets = record {

@@ -3,7 +3,8 @@ use Rattle.std.specs.Prelude.{◌≡◌, ℕ, zero, suc, ◌+◌, ◌-◌, ◌<�
 use Rattle.std.proofs.Math.Path.{refl}
 use Rattle.std.proofs.Common.{sym, ap, ◌∙◌, ⊎_elim, arith}
 use Rattle.std.proofs.lemmas.Bool.{cases_eq, cases_Bool, cond-true, cond-false}
-use Rattle.buckets.specs.Firsts.{first_from, or_else, next_from}
+use Rattle.std.specs.Option.{option_or}
+use Rattle.buckets.specs.Firsts.{first_from, next_from}
 
 module _ (f : ℕ → Bool) where
   first-here : (a n : ℕ) → f a ≡ true → first_from f a (suc n) ≡ Some a
@@ -74,7 +75,7 @@ module _ (f : ℕ → Bool) where
   unfolding next_from
   next_from-some n at b e l = by_way (first_from f at (n - at)) refl e
     where
-      by_way : (o : Option ℕ) → first_from f at (n - at) ≡ o → or_else o (first_from f 0 n) ≡ Some b → (f b ≡ true) × (b < n)
+      by_way : (o : Option ℕ) → first_from f at (n - at) ≡ o → option_or o (first_from f 0 n) ≡ Some b → (f b ≡ true) × (b < n)
       by_way (Some x) up e = let r = first_some at (n - at) b (up ∙ e) in (r.0, omega arith)
       by_way None up e = let r = first_some 0 n b e in (r.0, omega arith)
 
@@ -82,7 +83,7 @@ module _ (f : ℕ → Bool) where
   unfolding next_from
   next_from-none n at e k h = first-fails 0 n (last (first_from f at (n - at)) e) k (omega arith) (omega arith)
     where
-      last : (o : Option ℕ) → or_else o (first_from f 0 n) ≡ None → first_from f 0 n ≡ None
+      last : (o : Option ℕ) → option_or o (first_from f 0 n) ≡ None → first_from f 0 n ≡ None
       last (Some x) e = cc
       last None e = e
 

@@ -1,13 +1,13 @@
 -- The best label of a queue, station by station; and that it passes a threshold which is itself carried over a step.
 use Rattle.std.proofs.Common.{◌≡◌, ℕ, ◌+◌, ◌<◌, true, ◌⊎◌, List, [], ◌∷◌, length, drop, Some, None, Option, sym, refl, ap, ◌∙◌, inl, inr, ⊎_elim, ◌==◌, slice_index}
-use Rattle.std.specs.Option.{option_map}
+use Rattle.std.specs.Option.{option_map, option_and_then}
 use Rattle.std.specs.List.{slice_get}
 use Rattle.std.proofs.lemmas.List.{drop_more}
 use Rattle.std.proofs.lemmas.Bool.{cases_Bool, cond-true, cond-false, or_left, or_right, eq-eqb}
 use Rattle.kinds.specs.declared.kind.Kind.{Ghosts}
 use Rattle.kinds.specs.Laws.{Laws}
 use Rattle.lists.specs.Stations.{holds}
-use Rattle.lists.specs.Thresholds.{passes, best_on, best_label, further, better_of}
+use Rattle.lists.specs.Thresholds.{passes, best_on, best_label, better_of}
 
 module _ {K L G : Type 0} (k : Ghosts K L G) (ls : List L) (best : Option L) (line : List ℕ) (i x : ℕ) (within : i < length line) (is : x ≡ slice_index line i) where
   next-is : drop i line ≡ x ∷ drop (i + 1) line
@@ -15,11 +15,11 @@ module _ {K L G : Type 0} (k : Ghosts K L G) (ls : List L) (best : Option L) (li
 
   -- a label that was not handed over ends it
   pub best-stops : slice_get ls x ≡ None → best_on k ls best (drop i line) ≡ None
-  best-stops none = ap (best_on k ls best) next-is ∙ ap (λ o. further k o (λ a. best_on k ls (Some (better_of k best a)) (drop (i + 1) line))) none
+  best-stops none = ap (best_on k ls best) next-is ∙ ap (option_and_then (λ a. best_on k ls (Some (better_of k best a)) (drop (i + 1) line))) none
 
   -- one that was is counted in
   pub best-more : (a : L) → slice_get ls x ≡ Some a → best_on k ls best (drop i line) ≡ best_on k ls (Some (better_of k best a)) (drop (i + 1) line)
-  best-more a some = ap (best_on k ls best) next-is ∙ ap (λ o. further k o (λ b. best_on k ls (Some (better_of k best b)) (drop (i + 1) line))) some
+  best-more a some = ap (best_on k ls best) next-is ∙ ap (option_and_then (λ b. best_on k ls (Some (better_of k best b)) (drop (i + 1) line))) some
 
 module _ {K L G : Type 0} (k : Ghosts K L G) (ls : List L) where
   -- a station of the queue has the label, or the want of one, that the search answers
@@ -39,7 +39,7 @@ module _ {K L G : Type 0} (k : Ghosts K L G) (ls : List L) where
   abbrev From : Option L → List ℕ → Type 0
   From best xs = (best_on k ls best xs ≡ best) ⊎ Has xs (best_on k ls best xs)
 
-  from_next : (best : Option L) (x : ℕ) (xs : List ℕ) (rest : (b : Option L) → From b xs) (o : Option L) → slice_get ls x ≡ o → (further k o (λ a. best_on k ls (Some (better_of k best a)) xs) ≡ best) ⊎ Has (x ∷ xs) (further k o (λ a. best_on k ls (Some (better_of k best a)) xs))
+  from_next : (best : Option L) (x : ℕ) (xs : List ℕ) (rest : (b : Option L) → From b xs) (o : Option L) → slice_get ls x ≡ o → (option_and_then (λ a. best_on k ls (Some (better_of k best a)) xs) o ≡ best) ⊎ Has (x ∷ xs) (option_and_then (λ a. best_on k ls (Some (better_of k best a)) xs) o)
   from_next best x xs rest None e = inr (has-top x xs None e)
   from_next best x xs rest (Some a) e =
       ⊎_elim
@@ -54,7 +54,7 @@ module _ {K L G : Type 0} (k : Ghosts K L G) (ls : List L) where
   pub best-held : (x : ℕ) (xs : List ℕ) → Has (x ∷ xs) (best_label k ls (x ∷ xs))
   best-held x xs = at (slice_get ls x) refl
     where
-      at : (o : Option L) → slice_get ls x ≡ o → Has (x ∷ xs) (further k o (λ a. best_on k ls (Some a) xs))
+      at : (o : Option L) → slice_get ls x ≡ o → Has (x ∷ xs) (option_and_then (λ a. best_on k ls (Some a) xs) o)
       at None e = has-top x xs None e
       at (Some a) e = ⊎_elim (λ same. has-top x xs _ (e ∙ sym same)) (λ h. has_more x xs _ h) (best-from (Some a) xs)
 

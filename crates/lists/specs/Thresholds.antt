@@ -3,7 +3,7 @@
 -- Where the first is empty, the threshold first becomes the best label of the second carried over the step, and all stations there that now pass
 -- move over in their order. Where some labels there were not handed over, only the stations without one move, and the threshold stays.
 use Rattle.std.specs.Prelude.{ℕ, Bool, true, false, not, ◌||◌, List, [], ◌∷◌, ◌++◌, Some, None, filter, Option, if◌then◌else◌}
-use Rattle.std.specs.Option.{option_map, unwrap_or}
+use Rattle.std.specs.Option.{option_map, option_and_then, unwrap_or}
 use Rattle.std.specs.List.{slice_get}
 use Rattle.kinds.specs.declared.kind.Kind.{Ghosts}
 use Rattle.lists.specs.Order.{Order}
@@ -33,15 +33,10 @@ module _ {K L G : Type 0} (k : Ghosts K L G) where
   better_of None a = a
   better_of (Some b) a = if k.at_least b a then b else a
 
-  -- goes on with a label, if it was handed over
-  abbrev pub further : Option L → (L → Option L) → Option L
-  further None f = None
-  further (Some a) f = f a
-
   -- the best of a label and those of these stations, or none where one was not handed over
   abbrev pub best_on : List L → Option L → List ℕ → Option L
   best_on ls best [] = best
-  best_on ls best (x ∷ xs) = further (slice_get ls x) (λ a. best_on ls (Some (better_of best a)) xs)
+  best_on ls best (x ∷ xs) = option_and_then (λ a. best_on ls (Some (better_of best a)) xs) (slice_get ls x)
 
   abbrev pub best_label : List L → List ℕ → Option L
   best_label ls xs = best_on ls None xs

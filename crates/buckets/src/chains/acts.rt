@@ -1,5 +1,5 @@
 // What chains do.
-ghost use Rattle.std.specs.Prelude.{◌≡◌, ℕ, ◌+◌, ◌<◌, ◌≤◌, true, false, [], ◌∷◌, ◌++◌, length, if◌then◌else◌, nat_eq, option_map, slice_index};
+ghost use Rattle.std.specs.Prelude.{◌≡◌, ℕ, ◌+◌, ◌<◌, true, false, [], ◌∷◌, ◌++◌, length, if◌then◌else◌, nat_eq, option_map, slice_index};
 ghost use Rattle.lists.specs.Meaning.{count_below};
 ghost use Rattle.lists.specs.Stations.{top_of};
 ghost use Rattle.buckets.specs.Nodes.{nexts, prevs};
@@ -9,21 +9,18 @@ ghost use Rattle.buckets.specs.Links.{row, queues};
 use super::Chains;
 use crate::node::Node;
 use lists::station::Station;
+use std::array;
 
-// Nodes of which each end is tied to itself. The number of an end is what is written, and not only where.
+// Nodes that are each tied to itself.
 fn empty_nodes() -> [Node; 1088]
     ensures wide { length result ≡ 1088 }
-    ensures next { (k : ℕ) → 1024 ≤ k → k < 1088 → slice_index (nexts result) k ≡ k }
-    ensures prev { (k : ℕ) → 1024 ≤ k → k < 1088 → slice_index (prevs result) k ≡ k }
+    ensures next { (k : ℕ) → k < 1088 → slice_index (nexts result) k ≡ k }
+    ensures prev { (k : ℕ) → k < 1088 → slice_index (prevs result) k ≡ k }
 {
-    let mut nodes = [Node { next: 0, prev: 0 }; 1088];
-    for end in 1024..1088u16 {
-        nodes[end as usize] = Node {
-            next: end,
-            prev: end,
-        };
-    }
-    nodes
+    array::from_fn(|i| Node {
+        next: i as u16,
+        prev: i as u16,
+    })
 }
 
 impl Chains {

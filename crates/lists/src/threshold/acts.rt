@@ -1,16 +1,13 @@
 // What the threshold list does.
-ghost use Rattle.std.specs.Prelude.{◌≡◌, false, not, ◌||◌, [], filter};
-ghost use Rattle.std.specs.Option.{option_map, unwrap_or};
+ghost use Rattle.std.specs.Prelude.{◌≡◌, not, [], filter};
 ghost use Rattle.std.specs.List.{slice_get};
-ghost use Rattle.lists.specs.Meaning.{count_below};
 ghost use Rattle.lists.specs.Order.{waits_by, emptied_by, entered_by, picked_by};
 ghost use Rattle.lists.specs.Thresholds.{queues_of};
 ghost use Rattle.lists.specs.Queues.{line_of};
-ghost use Rattle.lists.specs.Stations.{holds, Apart};
 ghost use Rattle.kinds.specs.declared.kind.Kind.{Ghosts};
 ghost use Rattle.lists.specs.Orders.{lawful-by};
 ghost use Rattle.lists.specs.ThresholdsLemmas.{Sound, threshold-laws};
-ghost use Rattle.lists.specs.Thresholds.{passes, better_of, best_label, refilled, no_queues, threshold};
+ghost use Rattle.lists.specs.Thresholds.{passes, better_of, best_label, loosened, refilled, no_queues, threshold};
 
 use super::Threshold;
 use crate::handed::handed;
@@ -74,7 +71,7 @@ fn part<K: Kind>(
     }
 }
 
-// A new threshold list, with this step. It is no method, as the type of a list does not tell the kind of its labels.
+// A new threshold list, with this step. As a method it would take the kind all the same, as `Threshold::new::<K>(step)`.
 pub fn new_threshold<K: Kind>(step: K::Grade) -> Threshold<K::Label, K::Grade>
     ensures { queues_of result ≡ no_queues K.Kind step }
 {
@@ -86,22 +83,24 @@ pub fn new_threshold<K: Kind>(step: K::Grade) -> Threshold<K::Label, K::Grade>
     }
 }
 
-// The threshold that a pick sets where the first queue is empty: the best label of the second, carried over the step; or none where it
-// sets none.
-fn loosen<K: Kind>(labels: &[K::Label], second: &Queue, step: K::Grade) -> Option<K::Label>
-    ensures { result ≡ option_map (λ best. K.Kind.carry best step) (best_label K.Kind labels.now (line_of second.now)) }
-{
-    best_label::<K>(labels, second).map(|best| K::carry(best, step))
-}
+impl<L: Copy, G: Copy> Threshold<L, G> {
+    // The threshold that a pick sets where the first queue is empty: the best label of the second, carried over the step; or none where it
+    // sets none.
+    fn loosened<K: Kind<Label = L, Grade = G>>(&self, labels: &[L]) -> Option<L>
+        ensures { result ≡ loosened K.Kind (queues_of self.now) labels.now }
+    {
+        best_label::<K>(labels, &self.second).map(|best| K::carry(best, self.step))
+    }
 
-// Fills the first queue, which is empty, from the second.
-fn refill<K: Kind>(list: &mut Threshold<K::Label, K::Grade>, labels: &[K::Label])
-    requires { line_of list.old.first ≡ [] }
-    ensures { queues_of list.new ≡ refilled K.Kind (queues_of list.old) labels.now }
-{
-    let limit = loosen::<K>(labels, &list.second, list.step);
-    part::<K>(&mut list.first, &mut list.second, labels, limit);
-    list.limit = limit.unwrap_or(list.limit);
+    // Fills the first queue, which is empty, from the second.
+    fn refill<K: Kind<Label = L, Grade = G>>(&mut self, labels: &[L])
+        requires { line_of self.old.first ≡ [] }
+        ensures { queues_of self.new ≡ refilled K.Kind (queues_of self.old) labels.now }
+    {
+        let limit = self.loosened::<K>(labels);
+        part::<K>(&mut self.first, &mut self.second, labels, limit);
+        self.limit = limit.unwrap_or(self.limit);
+    }
 }
 
 impl<K: Kind> CandidateList<K> for Threshold<K::Label, K::Grade> {
@@ -138,7 +137,7 @@ impl<K: Kind> CandidateList<K> for Threshold<K::Label, K::Grade> {
 
     fn pick(&mut self, labels: &[K::Label]) -> Option<u16> {
         if self.first.len() == 0 {
-            refill::<K>(self, labels);
+            self.refill::<K>(labels);
         }
         self.first.pop().map(Station::index)
     }

@@ -1,14 +1,20 @@
--- One more end is tied to itself.
-use Rattle.std.proofs.Common.{◌<◌, length, refl, ◌∙◌, arith, length-set}
+-- Each node is tied to itself.
+use Rattle.std.proofs.Common.{◌≡◌, slice_index_or, ◌∙◌, arith, rules}
+use Rattle.std.proofs.lemmas.List.{get_or-map}
 use Rattle.buckets.specs.declared.node.Node.{Node}
-use Rattle.buckets.proofs.Fresh.{tied_more}
+use Rattle.buckets.specs.LinksLemmas.{no_node}
 use Rattle.buckets.proofs.chains.acts.empty_nodes.Goals as goal
 
-pub loop-end-preserved : goal.loop-end-preserved
-loop-end-preserved c =
-    let old = c.loop-end.invariant in
-    let l : c.loop-end.end < length c.loop-end.nodes = omega (arith, old.0, c.loop-end-test.true) in (
-      length-set _ _ _ ∙ old.0,
-      tied_more (λ (n : Node). n.next) c.loop-end.nodes c.loop-end.end _ l refl old.1,
-      tied_more (λ (n : Node). n.prev) c.loop-end.nodes c.loop-end.end _ l refl old.2,
-    )
+pub returns-clause-next : goal.returns-clause-next
+returns-clause-next c = λ k l.
+    let nodes = c.from_fn.result in
+    let made = (c.from_fn.ensures.items.at k no_node l).2 in
+    let is : (slice_index_or nodes k no_node).next ≡ k = search rules in
+    get_or-map (λ (n : Node). n.next) nodes k no_node 0 (omega (arith, l, c.from_fn.ensures.items.long)) ∙ is
+
+pub returns-clause-prev : goal.returns-clause-prev
+returns-clause-prev c = λ k l.
+    let nodes = c.from_fn.result in
+    let made = (c.from_fn.ensures.items.at k no_node l).2 in
+    let is : (slice_index_or nodes k no_node).prev ≡ k = search rules in
+    get_or-map (λ (n : Node). n.prev) nodes k no_node 0 (omega (arith, l, c.from_fn.ensures.items.long)) ∙ is

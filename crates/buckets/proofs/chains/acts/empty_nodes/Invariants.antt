@@ -1,8 +1,0 @@
--- The ends before this one are tied to themselves.
-use Rattle.std.proofs.Common.{◌≡◌, ℕ, ◌<◌, ◌≤◌, length, slice_index}
-use Rattle.buckets.specs.Nodes.{nexts, prevs}
-use Rattle.buckets.proofs.chains.acts.empty_nodes.Given as goal
-
-abbrev pub invariant-loop-end : goal.invariant-loop-end
-invariant-loop-end l =
-    (length l.nodes ≡ 1088) × ((k : ℕ) → 1024 ≤ k → k < l.end → slice_index (nexts l.nodes) k ≡ k) × ((k : ℕ) → 1024 ≤ k → k < l.end → slice_index (prevs l.nodes) k ≡ k)
