@@ -1,5 +1,5 @@
 -- The list that is made by choice.
-use Rattle.std.specs.Prelude.{◌≡◌, ℕ, cond, [], Ok, Err, Result}
+use Rattle.std.specs.Prelude.{◌≡◌, ℕ, if◌then◌else◌, [], Ok, Err, Result}
 use Rattle.refusals.specs.declared.list.ListFault.{ListFault}
 use Rattle.refusals.specs.declared.list.ListFault.TheVariants.{Buckets}
 use Rattle.kinds.specs.declared.kind.Kind.{Ghosts}
@@ -33,7 +33,7 @@ chosen k choice.FirstIn = Ok (of_first_in [])
 chosen k choice.TwoEnded = Ok (of_two_ended no_ends)
 chosen k choice.SmallLabel = Ok (of_small_label [])
 chosen k (choice.Threshold step) = Ok (of_threshold (no_queues k step))
-chosen k (choice.Bucket width span) = cond (buckets_refused width span) (Err Buckets) (Ok (of_bucket (no_rows width (bucket_count width span))))
+chosen k (choice.Bucket width span) = if buckets_refused width span then Err Buckets else Ok (of_bucket (no_rows width (bucket_count width span)))
 
 -- a new list is as after emptying
 abbrev pub Fresh : {K L G : Type 0} → Ghosts K L G → AnyModel L G → Type 0

@@ -1,5 +1,5 @@
 -- The candidate lists by their numbers and names.
-use Rattle.std.specs.Prelude.{ℕ, cond, List, Some, None, codes, Option, ◌==◌}
+use Rattle.std.specs.Prelude.{ℕ, if◌then◌else◌, List, Some, None, codes, Option, ◌==◌}
 use Rattle.std.specs.Str.{bytes_eq}
 use Rattle.choice.specs.declared.list_name.ListName.{ListName}
 use Rattle.choice.specs.declared.list_name.ListName.TheVariants.{FirstIn, TwoEnded, SmallLabel, Threshold, Bucket}
@@ -13,11 +13,11 @@ list_number Bucket = 4
 
 abbrev pub list_numbered : ℕ → Option ListName
 list_numbered n =
-    cond (n == 0) (Some FirstIn)
-    (cond (n == 1) (Some TwoEnded)
-    (cond (n == 2) (Some SmallLabel)
-    (cond (n == 3) (Some Threshold)
-    (cond (n == 4) (Some Bucket) None))))
+    if n == 0 then Some FirstIn
+    else (if n == 1 then Some TwoEnded
+    else (if n == 2 then Some SmallLabel
+    else (if n == 3 then Some Threshold
+    else (if n == 4 then Some Bucket else None))))
 
 abbrev pub list_word : ListName → List ℕ
 list_word FirstIn = codes "first-in"
@@ -28,8 +28,8 @@ list_word Bucket = codes "bucket"
 
 abbrev pub list_named : List ℕ → Option ListName
 list_named w =
-    cond (bytes_eq w (codes "first-in")) (Some FirstIn)
-    (cond (bytes_eq w (codes "two-ended")) (Some TwoEnded)
-    (cond (bytes_eq w (codes "small-label")) (Some SmallLabel)
-    (cond (bytes_eq w (codes "threshold")) (Some Threshold)
-    (cond (bytes_eq w (codes "bucket")) (Some Bucket) None))))
+    if bytes_eq w (codes "first-in") then Some FirstIn
+    else (if bytes_eq w (codes "two-ended") then Some TwoEnded
+    else (if bytes_eq w (codes "small-label") then Some SmallLabel
+    else (if bytes_eq w (codes "threshold") then Some Threshold
+    else (if bytes_eq w (codes "bucket") then Some Bucket else None))))

@@ -1,8 +1,9 @@
 // The candidate lists by their numbers and names.
-ghost use Rattle.std.specs.Prelude.{◌≡◌};
+ghost use Rattle.std.specs.Prelude.{◌≡◌, None, Some, codes, MatchResult};
 ghost use Rattle.choice.specs.Names.{list_number, list_numbered, list_word, list_named};
 
-use script::words::reads_as;
+use std::error::Error;
+use std::fmt;
 
 #[derive(Clone, Copy, Debug, PartialEq, Eq)]
 pub enum ListName {
@@ -13,33 +14,20 @@ pub enum ListName {
     Bucket,
 }
 
+// That no list has a number or a name.
+#[derive(Clone, Copy, Debug, PartialEq, Eq)]
+pub struct UnknownList;
+
 impl ListName {
-    pub fn number(self) -> u8
-        ensures { result ≡ list_number self }
-    {
-        match self {
-            ListName::FirstIn => 0,
-            ListName::TwoEnded => 1,
-            ListName::SmallLabel => 2,
-            ListName::Threshold => 3,
-            ListName::Bucket => 4,
-        }
-    }
+    const ALL: [ListName; 5] = [
+        ListName::FirstIn,
+        ListName::TwoEnded,
+        ListName::SmallLabel,
+        ListName::Threshold,
+        ListName::Bucket,
+    ];
 
-    // The list that has this number, or none.
-    pub fn numbered(number: u8) -> Option<ListName>
-        ensures { result ≡ list_numbered number }
-    {
-        match number {
-            0 => Some(ListName::FirstIn),
-            1 => Some(ListName::TwoEnded),
-            2 => Some(ListName::SmallLabel),
-            3 => Some(ListName::Threshold),
-            4 => Some(ListName::Bucket),
-            _ => None,
-        }
-    }
-
+    // The name as a text, beside `Display`: `try_from` compares words with it, which would else need a String.
     pub fn word(self) -> &'static str
         ensures { result.now ≡ list_word self }
     {
@@ -51,23 +39,61 @@ impl ListName {
             ListName::Bucket => "bucket",
         }
     }
+}
 
-    // The list that a word names, or none.
-    pub fn named(word: &[u8]) -> Option<ListName>
-        ensures { result ≡ list_named word.now }
-    {
-        if reads_as(word, "first-in") {
-            Some(ListName::FirstIn)
-        } else if reads_as(word, "two-ended") {
-            Some(ListName::TwoEnded)
-        } else if reads_as(word, "small-label") {
-            Some(ListName::SmallLabel)
-        } else if reads_as(word, "threshold") {
-            Some(ListName::Threshold)
-        } else if reads_as(word, "bucket") {
-            Some(ListName::Bucket)
-        } else {
-            None
+impl fmt::Display for ListName {
+    ghost output = { λ name. Some (list_word name) };
+
+    fn fmt<W: fmt::Write>(&self, f: &mut fmt::Formatter<W>) -> fmt::Result {
+        f.write_str(self.word())
+    }
+}
+
+impl From<ListName> for u8 {
+    ghost from_gives = { λ name n. n ≡ list_number name };
+
+    fn from(name: ListName) -> u8 {
+        name as u8
+    }
+}
+
+impl TryFrom<u8> for ListName {
+    type Error = UnknownList;
+
+    ghost try_from_gives = { λ n r. MatchResult r (λ name. list_numbered n ≡ Some name) (λ _. list_numbered n ≡ None) };
+
+    fn try_from(number: u8) -> Result<ListName, UnknownList> {
+        match number {
+            0 => Ok(ListName::FirstIn),
+            1 => Ok(ListName::TwoEnded),
+            2 => Ok(ListName::SmallLabel),
+            3 => Ok(ListName::Threshold),
+            4 => Ok(ListName::Bucket),
+            _ => Err(UnknownList),
         }
     }
 }
+
+impl TryFrom<&[u8]> for ListName {
+    type Error = UnknownList;
+
+    ghost try_from_gives = { λ word r. MatchResult r (λ name. list_named word.now ≡ Some name) (λ _. list_named word.now ≡ None) };
+
+    fn try_from(word: &[u8]) -> Result<ListName, UnknownList> {
+        ListName::ALL
+            .iter()
+            .find(|name| word == name.word().as_bytes())
+            .copied()
+            .ok_or(UnknownList)
+    }
+}
+
+impl fmt::Display for UnknownList {
+    ghost output = { λ _. Some (codes "no such candidate list") };
+
+    fn fmt<W: fmt::Write>(&self, f: &mut fmt::Formatter<W>) -> fmt::Result {
+        f.write_str("no such candidate list")
+    }
+}
+
+impl Error for UnknownList {}

@@ -13,7 +13,7 @@ use lists::threshold::acts::new_threshold;
 use lists::two_ended::TwoEnded;
 use refusals::list::ListFault;
 
-// A list, with what its making takes.
+// A list, with what its making takes. `ListName` is apart from it, since the name is known before the step, the width and the span are.
 #[derive(Clone, Copy)]
 pub enum Choice<G> {
     FirstIn,
@@ -21,7 +21,7 @@ pub enum Choice<G> {
     SmallLabel,
     // The step.
     Threshold(G),
-    // The width and the span.
+    // The width and the span: a struct of the two would only be made here and taken apart in `make`.
     Bucket(u32, u32),
 }
 
@@ -62,9 +62,6 @@ pub fn make<K: Kind>(choice: Choice<K::Grade>) -> Result<AnyList<K::Label, K::Gr
         Choice::TwoEnded => Ok(AnyList::TwoEnded(TwoEnded::new())),
         Choice::SmallLabel => Ok(AnyList::SmallLabel(SmallLabel::new())),
         Choice::Threshold(step) => Ok(AnyList::Threshold(new_threshold::<K>(step))),
-        Choice::Bucket(width, span) => match Bucket::new(width, span) {
-            Ok(list) => Ok(AnyList::Bucket(list)),
-            Err(fault) => Err(fault),
-        },
+        Choice::Bucket(width, span) => Ok(AnyList::Bucket(Bucket::new(width, span)?)),
     }
 }

@@ -1,6 +1,5 @@
 -- What the list commands come to on what a site holds, in any kind.
-use Rattle.std.specs.Prelude.{ℕ, cond, List, length, take, Some, None, Ok, Err, Option, Result, ◌==◌, nat_lt, slice_set}
-use Rattle.refusals.specs.declared.kind.KindFault.{KindFault}
+use Rattle.std.specs.Prelude.{ℕ, if◌then◌else◌, List, length, take, Some, None, Ok, Err, Option, Result, ◌==◌, nat_lt, slice_set}
 use Rattle.refusals.specs.declared.list.ListFault.{ListFault}
 use Rattle.refusals.specs.declared.list.ListFault.TheVariants.{Station}
 use Rattle.refusals.specs.Tells.{list_tells, kind_tells}
@@ -16,6 +15,8 @@ use Rattle.answers.specs.declared.trouble.Trouble.TheVariants.{Usage, NoLabel}
 use Rattle.answers.specs.declared.trouble.Usage.{Usage as Shape}
 use Rattle.answers.specs.declared.trouble.Usage.TheVariants as usage
 use Rattle.answers.specs.Outcomes.{Outcome, troubled, answered}
+use Rattle.hands.specs.declared.ask.NotChosen.{NotChosen}
+use Rattle.hands.specs.declared.ask.NotChosen.TheVariants.{Refused, Troubled}
 use Rattle.hands.specs.Held.{HeldBy}
 
 -- the labels that are handed over: all, or the first so many
@@ -24,20 +25,20 @@ handed_over None ls = ls
 handed_over (Some n) ls = take n ls
 
 abbrev pub with_list : {L G : Type 0} → HeldBy L G → AnyModel L G → HeldBy L G
-with_list h m = record { grades = h.grades; labels = h.labels; list = m }
+with_list h m = record h { list = m }
 
 abbrev pub with_labels : {L G : Type 0} → HeldBy L G → List L → HeldBy L G
-with_labels h ls = record { grades = h.grades; labels = ls; list = h.list }
+with_labels h ls = record h { labels = ls }
 
 -- a command that takes no words after its own
 abbrev pub bare : {M : Type 0} → Shape → List (List ℕ) → M → Outcome M → Outcome M
-bare u ws m o = cond (length ws == 1) o (troubled (Usage u) m)
+bare u ws m o = if length ws == 1 then o else troubled (Usage u) m
 
 -- `poke label`: one label is overwritten
 abbrev pub poked : {L G : Type 0} → HeldBy L G → Result (ℕ × L) Trouble → Outcome (HeldBy L G)
 poked h (Err e) = troubled e h
 poked h (Ok p) =
-    cond (nat_lt p.0 (length h.labels)) (answered answer.Poked (with_labels h (slice_set h.labels p.0 p.1))) (troubled (NoLabel (length h.labels)) h)
+    if nat_lt p.0 (length h.labels) then answered answer.Poked (with_labels h (slice_set h.labels p.0 p.1)) else troubled (NoLabel (length h.labels)) h
 
 module _ {K L G : Type 0} (k : Ghosts K L G) where
   -- `list`: a new list, which is empty; a step that is no grade, and buckets that cannot be had, are refused
@@ -45,16 +46,17 @@ module _ {K L G : Type 0} (k : Ghosts K L G) where
   made_list h c (Ok m) = answered (answer.List (choice_name c)) (with_list h m)
   made_list h c (Err e) = answered (answer.Refused (list_tells e)) h
 
-  abbrev pub chose : HeldBy L G → Result (Result (Choice G) KindFault) Trouble → Outcome (HeldBy L G)
-  chose h (Err e) = troubled e h
-  chose h (Ok (Err e)) = answered (answer.Refused (kind_tells e)) h
-  chose h (Ok (Ok c)) = made_list h c (chosen k c)
+  abbrev pub chose : HeldBy L G → Result (Choice G) NotChosen → Outcome (HeldBy L G)
+  chose h (Err (Troubled e)) = troubled e h
+  chose h (Err (Refused e)) = answered (answer.Refused (kind_tells e)) h
+  chose h (Ok c) = made_list h c (chosen k c)
 
   -- `enter`: refused for a station of 1024 or more
   abbrev pub enters_at : HeldBy L G → ℕ → List L → Outcome (HeldBy L G)
   enters_at h x ls =
-      cond (nat_lt x 1024) (answered (answer.Entered (cond (any_waiting k h.list x) Entered.Waiting Entered.New)) (with_list h (any_entering k h.list x ls)))
-      (answered (answer.Refused (list_tells Station)) h)
+      if nat_lt x 1024
+      then answered (answer.Entered (if any_waiting k h.list x then Entered.Waiting else Entered.New)) (with_list h (any_entering k h.list x ls))
+      else answered (answer.Refused (list_tells Station)) h
 
   abbrev pub entered : HeldBy L G → Result (ℕ × Option ℕ) Trouble → Outcome (HeldBy L G)
   entered h (Err e) = troubled e h

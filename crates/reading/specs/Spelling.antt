@@ -1,12 +1,11 @@
 -- The values that words spell.
-use Rattle.std.specs.Prelude.{ℕ, List, Ok, Option, Result}
+use Rattle.std.specs.Prelude.{ℕ, List, Option}
 use Rattle.std.specs.Option.{option_map}
-use Rattle.refusals.specs.declared.kind.KindFault.{KindFault}
 use Rattle.kinds.specs.declared.airtime.Airtime.{Airtime}
 use Rattle.kinds.specs.declared.chance.Chance.{Chance}
 use Rattle.kinds.specs.declared.margin.Margin.{Margin}
 use Rattle.kinds.specs.Airtimes.{airtime_of}
-use Rattle.kinds.specs.Chances.{chance_read, chance_made}
+use Rattle.kinds.specs.Chances.{chance_read}
 use Rattle.kinds.specs.Margins.{margin_of}
 use Rattle.script.specs.Numbers.{number_of, decibels_of}
 
@@ -27,13 +26,3 @@ chance_reading w = option_map chance_read (number_of 4294967295 w)
 
 abbrev pub margin_read : List ℕ → Option Margin
 margin_read w = option_map margin_of (decibels_of w)
-
--- a single grade that is made of a word's number, unless no such grade exists
-abbrev pub airtime_made : List ℕ → Option (Result Airtime KindFault)
-airtime_made w = option_map Ok (airtime_read w)
-
-abbrev pub chance_making : List ℕ → Option (Result Chance KindFault)
-chance_making w = option_map chance_made (number_of 4294967295 w)
-
-abbrev pub margin_made : List ℕ → Option (Result Margin KindFault)
-margin_made w = option_map Ok (margin_read w)

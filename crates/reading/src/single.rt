@@ -1,78 +1,52 @@
-// Making one grade from a word.
-ghost use Rattle.std.specs.Prelude.{◌≡◌, ℕ, List, Option, Result};
+// Making one grade from what a word spells.
+ghost use Rattle.std.specs.Prelude.{◌≡◌, Ok, Result};
 ghost use Rattle.refusals.specs.declared.kind.KindFault.{KindFault};
-ghost use Rattle.answers.specs.declared.trouble.Bounds.{Bounds};
-ghost use Rattle.reading.specs.Spelling.{airtime_made, chance_making, margin_made};
+ghost use Rattle.kinds.specs.Chances.{chance_made};
 
 use crate::read::Readable;
-use answers::trouble::Bounds;
 use kinds::airtime::Airtime;
 use kinds::chance::Chance;
 use kinds::margin::Margin;
 use refusals::kind::KindFault;
-use script::number::number;
 
 // A grade that is made singly. In a list a number may stand for the nearest grade there is; a single number for which there is no grade is
 // refused.
 pub trait Single: Copy {
-    ghost makes: { List ℕ → Option (Result Self KindFault) };
+    // What a word spells for the grade.
+    type Spelt: Readable;
 
-    ghost spelt: { Bounds };
+    ghost makes: { Self.Spelt → Result Self KindFault };
 
-    fn single(word: &[u8]) -> Option<Result<Self, KindFault>>
-        ensures { result ≡ makes word.now };
-
-    fn spelt() -> Bounds
-        ensures { result ≡ spelt };
+    fn single(spelt: Self::Spelt) -> Result<Self, KindFault>
+        ensures { result ≡ makes spelt };
 }
 
 impl Single for Airtime {
-    ghost makes = { airtime_made };
+    type Spelt = Airtime;
 
-    ghost spelt = { Bounds.Long };
+    ghost makes = { λ grade. Ok grade };
 
-    fn single(word: &[u8]) -> Option<Result<Airtime, KindFault>> {
-        match Airtime::read(word) {
-            Some(grade) => Some(Ok(grade)),
-            None => None,
-        }
-    }
-
-    fn spelt() -> Bounds {
-        Bounds::Long
+    fn single(spelt: Airtime) -> Result<Airtime, KindFault> {
+        Ok(spelt)
     }
 }
 
 impl Single for Chance {
-    ghost makes = { chance_making };
+    type Spelt = u32;
 
-    ghost spelt = { Bounds.Long };
+    ghost makes = { chance_made };
 
-    fn single(word: &[u8]) -> Option<Result<Chance, KindFault>> {
-        match number(word, 4294967295) {
-            Some(n) => Some(Chance::new(n)),
-            None => None,
-        }
-    }
-
-    fn spelt() -> Bounds {
-        Bounds::Long
+    fn single(spelt: u32) -> Result<Chance, KindFault> {
+        Chance::new(spelt)
     }
 }
 
 impl Single for Margin {
-    ghost makes = { margin_made };
+    type Spelt = Margin;
 
-    ghost spelt = { Bounds.Decibels };
+    ghost makes = { λ grade. Ok grade };
 
-    fn single(word: &[u8]) -> Option<Result<Margin, KindFault>> {
-        match Margin::read(word) {
-            Some(grade) => Some(Ok(grade)),
-            None => None,
-        }
-    }
-
-    fn spelt() -> Bounds {
-        Bounds::Decibels
+    fn single(spelt: Margin) -> Result<Margin, KindFault> {
+        Ok(spelt)
     }
 }

@@ -1,5 +1,5 @@
 -- The numbers that words spell.
-use Rattle.std.specs.Prelude.{ℕ, ◌+◌, ◌-◌, ◌*◌, Bool, true, false, cond, ◌&&◌, List, [], ◌∷◌, ℤ, pos, neg_ℤ, Some, None, fold, Option, ◌==◌, nat_le}
+use Rattle.std.specs.Prelude.{ℕ, ◌+◌, ◌-◌, ◌*◌, Bool, true, false, if◌then◌else◌, ◌&&◌, List, [], ◌∷◌, ℤ, pos, neg_ℤ, Some, None, fold, Option, ◌==◌, nat_le}
 use Rattle.std.specs.Option.{option_map}
 
 -- '0' to '9'
@@ -21,9 +21,9 @@ value_of bs = fold (λ n b. n * 10 + (b - 48)) 0 bs
 
 -- the number that a word spells, where it is at most so large
 abbrev pub number_of : ℕ → List ℕ → Option ℕ
-number_of most w = cond (spelled w && nat_le (value_of w) most) (Some (value_of w)) None
+number_of most w = if spelled w && nat_le (value_of w) most then Some (value_of w) else None
 
 -- the decibels that a word spells, from -128 to 127: a number, or one after a minus sign
 abbrev pub decibels_of : List ℕ → Option ℤ
 decibels_of [] = None
-decibels_of (b ∷ bs) = cond (b == 45) (option_map (λ n. neg_ℤ (pos n)) (number_of 128 bs)) (option_map pos (number_of 127 (b ∷ bs)))
+decibels_of (b ∷ bs) = if b == 45 then option_map (λ n. neg_ℤ (pos n)) (number_of 128 bs) else option_map pos (number_of 127 (b ∷ bs))

@@ -1,5 +1,10 @@
 -- The words of a line.
-use Rattle.std.specs.Prelude.{ℕ, Bool, cond, ◌||◌, List, [], ◌∷◌, ◌++◌, ◌==◌}
+use Rattle.std.specs.Prelude.{ℕ, Bool, if◌then◌else◌, ◌||◌, List, [], ◌∷◌, ◌++◌, ◌==◌, map}
+use Rattle.std.specs.Borrow.{Bor}
+
+-- what words behind references spell
+abbrev pub word_bytes : List (Bor (List ℕ)) → List (List ℕ)
+word_bytes words = map (λ word. word.now) words
 
 -- a tab, a carriage return or a space
 abbrev pub blank : ℕ → Bool
@@ -13,7 +18,7 @@ ended (b ∷ bs) ws = (b ∷ bs) ∷ ws
 -- the words of what is left of a line, where w is the word under way
 abbrev pub words_from : List ℕ → List ℕ → List (List ℕ)
 words_from w [] = ended w []
-words_from w (b ∷ bs) = cond (blank b) (ended w (words_from [] bs)) (words_from (w ++ b ∷ []) bs)
+words_from w (b ∷ bs) = if blank b then ended w (words_from [] bs) else words_from (w ++ b ∷ []) bs
 
 abbrev pub words_of : List ℕ → List (List ℕ)
 words_of line = words_from [] line

@@ -1,12 +1,6 @@
 // The numbers that words spell.
 ghost use Rattle.std.specs.Prelude.{◌≡◌};
-ghost use Rattle.script.specs.Numbers.{digit, number_of, decibels_of};
-
-fn is_digit(byte: u8) -> bool
-    ensures { result ≡ digit byte }
-{
-    byte >= b'0' && byte <= b'9'
-}
+ghost use Rattle.script.specs.Numbers.{number_of, decibels_of};
 
 // The number that a word spells in digits, where it is at most `most`.
 pub fn number(word: &[u8], most: u32) -> Option<u32>
@@ -15,13 +9,13 @@ pub fn number(word: &[u8], most: u32) -> Option<u32>
     if word.is_empty() {
         return None;
     }
-    let most = most as u64;
+    let most = u64::from(most);
     let mut value: u64 = 0;
     for byte in word {
-        if !is_digit(*byte) {
+        if !byte.is_ascii_digit() {
             return None;
         }
-        value = value * 10 + (*byte - b'0') as u64;
+        value = value * 10 + u64::from(*byte - b'0');
         if value > most {
             return None;
         }
@@ -33,14 +27,8 @@ pub fn number(word: &[u8], most: u32) -> Option<u32>
 pub fn decibels(word: &[u8]) -> Option<i8>
     ensures { result ≡ decibels_of word.now }
 {
-    if word.is_empty() || word[0] != b'-' {
-        return match number(word, 127) {
-            Some(n) => Some(n as i8),
-            None => None,
-        };
-    }
-    match number(&word[1..], 128) {
-        Some(n) => Some((0 - n as i32) as i8),
-        None => None,
+    match word {
+        [b'-', rest @ ..] => number(rest, 128).map(|n| (0 - n as i32) as i8),
+        _ => number(word, 127).map(|n| n as i8),
     }
 }
