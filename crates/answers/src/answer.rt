@@ -12,7 +12,7 @@ use refusals::told::Told;
 use std::fmt;
 
 // A label, in the kind that the site has.
-#[derive(Clone, Copy)]
+#[derive(Clone, Copy, Debug, PartialEq, Eq)]
 pub enum Label {
     Airtime(Airtime),
     Chance(Chance),
@@ -32,7 +32,7 @@ impl fmt::Display for Label {
 }
 
 // What a command that was carried out, or refused, answers.
-#[derive(Clone, Copy)]
+#[derive(Clone, Copy, Debug, PartialEq, Eq)]
 pub enum Answer {
     // So many stations and links.
     Net(u16, u16),

@@ -25,7 +25,7 @@ fn fault_of(net: &Net, count: usize, way: &[u16], found: NotPath) -> WayFault
     ensures { Faulted (table_of net.now) count way.now result }
 {
     match found {
-        NotPath::Grades => WayFault::Grades(count, net.links() as usize),
+        NotPath::Grades => WayFault::Grades(count, usize::from(net.links())),
         NotPath::NoStation => unreachable(),
         NotPath::NoLink(i) => WayFault::NoLink(way[i]),
         NotPath::Parted(i) => WayFault::Parted(way[i], way[i - 1]),
