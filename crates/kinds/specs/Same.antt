@@ -27,9 +27,12 @@ same-chance x y e =
 abbrev Bounds : ℤ → Type 0
 Bounds z = (int_le (negsuc 127) z ≡ true) × (int_le z (pos 127) ≡ true)
 
+bounds-once : (z : ℤ) (p q : Bounds z) → p ≡ q
+bounds-once z p q = ×_prop (Bool-set _ _) (Bool-set _ _) p q
+
 pub same-margin : (x y : Margin) → x.decibels ≡ y.decibels → x ≡ y
 same-margin x y e =
-    same-made Bounds (λ z p q. ×_prop (Bool-set _ _) (Bool-set _ _) p q) (λ z p. record { decibels = z; least = p.0; most = p.1 }) x.decibels y.decibels (x.least, x.most) (y.least, y.most) e
+    same-made Bounds bounds-once (λ z p. record { decibels = z; least = p.0; most = p.1 }) x.decibels y.decibels (x.least, x.most) (y.least, y.most) e
 
 -- a value is what is made of its number
 pub airtime_of-micros : (x : Airtime) → airtime_of x.micros ≡ x

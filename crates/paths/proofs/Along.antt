@@ -53,26 +53,22 @@ module _ {t : Table} (star : ForwardStar t) where
   refused-broken count a p {e} n h broken =
       refused-no-path count a p e (rw (eq-eqb count (link_count t) n, lt-ltb a (station_count t) h) broken)
 
--- One step: a path from station `from` has come to station a, and the link at place i is next.
-module _ (t : Table) (from : ℕ) (way : List ℕ) (i a : ℕ) (here : i < length way) (known : breaks t 0 from way ≡ breaks t i a (drop i way)) where
-  -- that link
-  abbrev at : ℕ
-  at = get_or way i 0
-
-  pub breaks-no-link : None ≡ head_of t at → breaks t 0 from way ≡ Some (NoLink i)
-  breaks-no-link e = known ∙ rw (drop_more way i 0 here, le-ltb at (link_count t) (head-missing t at e))
+-- a path from station `from` has come to station a, and at place i is no link
+pub breaks-no-link : (t : Table) (from : ℕ) (way : List ℕ) (i a : ℕ) → i < length way
+    → breaks t 0 from way ≡ breaks t i a (drop i way) → None ≡ head_of t (get_or way i 0) → breaks t 0 from way ≡ Some (NoLink i)
+breaks-no-link t from way i a here known e =
+    known ∙ rw (drop_more way i 0 here, le-ltb (get_or way i 0) (link_count t) (head-missing t (get_or way i 0) e))
 
 -- at the end it has broken off nowhere
 pub breaks-end : (t : Table) (from : ℕ) (way : List ℕ) (i a : ℕ) → length way ≤ i
     → breaks t 0 from way ≡ breaks t i a (drop i way) → breaks t 0 from way ≡ None
 breaks-end t from way i a done known = known ∙ rw (drop_all i way done)
 
--- The label: x before the link at place i.
-module _ {K L G : Type 0} (k : Ghosts K L G) (grades : List G) (way : List ℕ) (i : ℕ) (x : L) where
-  -- it becomes y over that link
-  pub grade-on : (y : L) (g : G) → i < length way → get_or way i 0 < length grades → g ≡ get_or grades (get_or way i 0) g → y ≡ k.carry x g
-      → path_grade k grades way ≡ fold (through k grades) (Some x) (drop i way)
-      → path_grade k grades way ≡ fold (through k grades) (Some y) (drop (i + 1) way)
-  grade-on y g here h e is known =
-      let read = slice_get_read grades (length grades) (get_or way i 0) g refl h e in
-      known ∙ rw (drop_more way i 0 here, is) (ap (λ o. fold (through k grades) (carried_over k x o) (drop (i + 1) way)) read)
+-- the label x before the link at place i becomes y over that link
+pub grade-on : {K L G : Type 0} (k : Ghosts K L G) (grades : List G) (way : List ℕ) (i : ℕ) (x y : L) (g : G)
+    → i < length way → get_or way i 0 < length grades → g ≡ get_or grades (get_or way i 0) g → y ≡ k.carry x g
+    → path_grade k grades way ≡ fold (through k grades) (Some x) (drop i way)
+    → path_grade k grades way ≡ fold (through k grades) (Some y) (drop (i + 1) way)
+grade-on k grades way i x y g here h e is known =
+    let read = slice_get_read grades (length grades) (get_or way i 0) g refl h e in
+    known ∙ rw (drop_more way i 0 here, is) (ap (λ o. fold (through k grades) (carried_over k x o) (drop (i + 1) way)) read)

@@ -96,11 +96,7 @@ onward-decides {t} star way n a room some w = (
   simple-onward t way n a (tail-is star _ a w),
 )
 
--- One step: what is left from place i on, at station a with the marks m, decides P.
-module _ {P : Type 0} (t : Table) (m : List Bool) (way : List ℕ) (i a : ℕ) (known : Decides (onward t m a (drop i way)) P) where
-  -- the link there
-  abbrev at : ℕ
-  at = get_or way i 0
-
-  pub at-end : length way ≤ i → Decides true P
-  at-end done = Decides-at _ _ (rw (drop_all i way done)) known
+-- at the end of the way, what is left goes onward
+pub at-end : {P : Type 0} (t : Table) (m : List Bool) (way : List ℕ) (i a : ℕ) → length way ≤ i
+    → Decides (onward t m a (drop i way)) P → Decides true P
+at-end t m way i a done known = Decides-at _ _ (rw (drop_all i way done)) known

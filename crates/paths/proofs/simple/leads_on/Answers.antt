@@ -12,4 +12,4 @@ loop-link-init c =
 pub returns : goal.returns
 returns c =
     let l = c.loop-link in
-    at-end (table_of c.args.net.now) l.met c.args.way.now l.link-index l.at l.invariant (omega arith)
+    at-end (table_of c.args.net.now) l.met c.args.way.now l.link-index l.at (omega arith) l.invariant
