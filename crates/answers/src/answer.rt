@@ -62,7 +62,7 @@ impl fmt::Display for Answer {
             Answer::Net(stations, links) => write!(f, "net ok {stations} {links}"),
             Answer::Kind(kind) => write!(f, "kind {kind}"),
             Answer::Grades(count) => write!(f, "grades {count}"),
-            Answer::List(name) => write!(f, "list {}", name.word()),
+            Answer::List(name) => write!(f, "list {name}"),
             Answer::Path(label) => write!(f, "path {label}"),
             Answer::Poked => f.write_str("poke"),
             Answer::Entered(Entered::New) => f.write_str("enter new"),

@@ -1,14 +1,15 @@
 -- Reading words one by one gives what they spell.
-use Rattle.std.proofs.Common.{◌≡◌, ℕ, ◌+◌, ◌<◌, ◌≤◌, List, [], ◌∷◌, ◌++◌, length, get_or, drop, Some, None, Ok, Err, Option, Result, sym, refl, ap, ◌∙◌, append_assoc, append-nil, arith, length-drop, get_or-drop, Bor}
+use Rattle.std.proofs.Common.{◌≡◌, ℕ, ◌+◌, ◌<◌, List, [], ◌∷◌, ◌++◌, length, get_or, drop, Some, None, Ok, Err, Option, Result, MatchResult, sym, refl, ap, ◌∙◌, append_assoc, arith, length-drop, get_or-drop, Bor}
 use lib.ListN.{length-map, get_or-map}
-use Rattle.std.proofs.lemmas.List.{drop_more, drop_all, get_or_default}
+use Rattle.std.proofs.lemmas.List.{drop_more, get_or_default}
 use Rattle.std.proofs.lemmas.List.FromFn.{length-enumerate_from, get_or-enumerate_from}
 use Rattle.std.specs.List.{enumerate_from}
 use Rattle.std.specs.Option.{ok_or}
 use Rattle.answers.specs.declared.trouble.Bounds.{Bounds}
 use Rattle.answers.specs.declared.trouble.Trouble.{Trouble}
 use Rattle.answers.specs.declared.trouble.Trouble.TheVariants.{NotNumber}
-use Rattle.reading.specs.Reading.{texts, read_more, read_all}
+use Rattle.script.specs.Words.{word_bytes}
+use Rattle.reading.specs.Reading.{read_more, read_all}
 
 -- values that were read, before what comes of the words that are left
 abbrev pub after : {T : Type 0} → List T → Result (List T) Trouble → Result (List T) Trouble
@@ -19,32 +20,26 @@ after_one : {T : Type 0} (xs : List T) (x : T) (e : Trouble) (r : Result (List T
 after_one xs x e (Ok ys) = ap Ok (sym (append_assoc xs (x ∷ []) ys))
 after_one xs x e (Err f) = refl
 
-module _ {T : Type 0} (reads : List ℕ → Option T) (bounds : Bounds) (ws : List (List ℕ)) (i : ℕ) (xs : List T) where
-  -- the word at i spells x
-  pub read_one : (o : Option T) (x : T) → i < length ws → o ≡ reads (get_or ws i []) → ok_or o (NotNumber (i + 1) bounds) ≡ Ok x
-      → after xs (read_all reads bounds (i + 1) (drop i ws)) ≡ after (xs ++ x ∷ []) (read_all reads bounds (i + 1 + 1) (drop (i + 1) ws))
-  read_one None x h e g = absurd (cc)
-  read_one (Some y) x h e g =
-      let s : y ≡ x = cc in
-      rw (drop_more ws i [] h, ← e, s) (after_one xs x (NotNumber (i + 1) bounds) (read_all reads bounds (i + 1 + 1) (drop (i + 1) ws)))
+-- the word at index i gives one value more, or ends the reading
+one_more : {T : Type 0} (reads : List ℕ → Option T) (bounds : Bounds) (ws : List (List ℕ)) (i : ℕ) (xs : List T) (o : Option T) (r : Result T Trouble) → i < length ws
+    → o ≡ reads (get_or ws i []) → r ≡ ok_or o (NotNumber (i + 1) bounds)
+    → MatchResult r (λ x. after xs (read_all reads bounds (i + 1) (drop i ws)) ≡ after (xs ++ x ∷ []) (read_all reads bounds (i + 1 + 1) (drop (i + 1) ws)))
+    (λ e. after xs (read_all reads bounds (i + 1) (drop i ws)) ≡ Err e)
+one_more reads bounds ws i xs None r h e v = rw (v, drop_more ws i [] h, ← e)
+one_more reads bounds ws i xs (Some x) r h e v =
+    rw (v, drop_more ws i [] h, ← e) (after_one xs x (NotNumber (i + 1) bounds) (read_all reads bounds (i + 1 + 1) (drop (i + 1) ws)))
 
-  -- it spells nothing
-  pub read_none : (o : Option T) (f : Trouble) → i < length ws → o ≡ reads (get_or ws i []) → ok_or o (NotNumber (i + 1) bounds) ≡ Err f → after xs (read_all reads bounds (i + 1) (drop i ws)) ≡ Err f
-  read_none None f h e g = let s : NotNumber (i + 1) bounds ≡ f = cc in rw (drop_more ws i [] h, ← e, s)
-  read_none (Some x) f h e g = absurd (cc)
-
-  -- no word is left
-  pub read-end : length ws ≤ i → after xs (read_all reads bounds (i + 1) (drop i ws)) ≡ Ok xs
-  read-end h = rw (drop_all i ws h) (ap Ok (append-nil xs))
-
--- the n-th of the words from an index on, each with its index
-pub turn : (words : List (Bor (List ℕ))) (from n : ℕ) (x : ℕ × Bor (List ℕ)) → n < length (drop from (enumerate_from 0 words)) → x ≡ get_or (drop from (enumerate_from 0 words)) n x
-    → (from + n < length (texts words)) × (x.0 ≡ from + n) × (x.1.now ≡ get_or (texts words) (from + n) [])
-turn words from n x h e =
+-- the same of the n-th of the words from an index on, each with its index
+pub turn : {T : Type 0} (reads : List ℕ → Option T) (bounds : Bounds) (words : List (Bor (List ℕ))) (from n : ℕ) (xs : List T) (x : ℕ × Bor (List ℕ)) (o : Option T) (b : Bounds) (r : Result T Trouble)
+    → n < length (drop from (enumerate_from 0 words)) → x ≡ get_or (drop from (enumerate_from 0 words)) n x → o ≡ reads x.1.now → b ≡ bounds → r ≡ ok_or o (NotNumber (x.0 + 1) b)
+    → MatchResult r (λ y. after xs (read_all reads bounds (from + n + 1) (drop (from + n) (word_bytes words))) ≡ after (xs ++ y ∷ []) (read_all reads bounds (from + n + 1 + 1) (drop (from + n + 1) (word_bytes words))))
+    (λ e. after xs (read_all reads bounds (from + n + 1) (drop (from + n) (word_bytes words))) ≡ Err e)
+turn reads bounds words from n xs x o b r h e k d v =
     let here : from + n < length words = omega (arith, length-drop from (enumerate_from 0 words), length-enumerate_from 0 words) in
-    let at : x ≡ (from + n, get_or words (from + n) x.1) = e ∙ get_or-drop from (enumerate_from 0 words) n x ∙ get_or-enumerate_from 0 words (from + n) x here
-    ∙ ap (λ j. (j, get_or words (from + n) x.1)) (omega arith) in (
-      omega (arith, length-map words (λ x. x.now)),
-      ap (λ p. p.0) at,
-      ap (λ p. p.1.now) at ∙ sym (get_or-map (λ x. x.now) words (from + n) x.1) ∙ get_or_default (texts words) (from + n) x.1.now [] (omega (arith, length-map words (λ x. x.now))),
-    )
+    let at : x ≡ (0 + (from + n), get_or words (from + n) x.1) = e ∙ get_or-drop from (enumerate_from 0 words) n x ∙ get_or-enumerate_from 0 words (from + n) x here in
+    let i : x.0 ≡ from + n = ap (λ p. p.0) at ∙ omega arith in
+    let there : from + n < length (word_bytes words) = omega (arith, length-map words (λ x. x.now)) in
+    let w : x.1.now ≡ get_or (word_bytes words) (from + n) [] =
+    ap (λ p. p.1.now) at ∙ sym (get_or-map (λ x. x.now) words (from + n) x.1) ∙ get_or_default (word_bytes words) (from + n) x.1.now [] there in
+    one_more reads bounds (word_bytes words) (from + n) xs o r there (k ∙ ap reads w)
+    (v ∙ ap (λ j. ok_or o (NotNumber (j + 1) b)) i ∙ ap (λ y. ok_or o (NotNumber (from + n + 1) y)) d)

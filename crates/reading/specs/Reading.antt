@@ -1,14 +1,9 @@
 -- Reading the values that words spell.
-use Rattle.std.specs.Borrow.{Bor}
-use Rattle.std.specs.Prelude.{◌≡◌, ℕ, ◌+◌, ◌⊎◌, List, [], ◌∷◌, map, Some, None, Ok, Err, Option, Result, MatchResult, slice_index_or}
+use Rattle.std.specs.Prelude.{◌≡◌, ℕ, ◌+◌, ◌⊎◌, List, [], ◌∷◌, Some, None, Ok, Err, Option, Result, MatchResult, slice_index_or}
 use Rattle.std.specs.Option.{ok_or}
 use Rattle.answers.specs.declared.trouble.Bounds.{Bounds}
 use Rattle.answers.specs.declared.trouble.Trouble.{Trouble}
 use Rattle.answers.specs.declared.trouble.Trouble.TheVariants.{NotNumber, Memory}
-
--- the words of a line, which are held by reference
-abbrev pub texts : List (Bor (List ℕ)) → List (List ℕ)
-texts words = map (λ x. x.now) words
 
 -- one value more, or the trouble with its word
 abbrev pub read_more : {T : Type 0} → Option T → Trouble → Result (List T) Trouble → Result (List T) Trouble

@@ -2,7 +2,8 @@
 ghost use Rattle.std.specs.Prelude.{◌≡◌, ◌<◌, length};
 ghost use Rattle.std.specs.Option.{SomeIff};
 ghost use Rattle.net.specs.Table.{table};
-ghost use Rattle.reading.specs.Reading.{texts, Got};
+ghost use Rattle.script.specs.Words.{word_bytes};
+ghost use Rattle.reading.specs.Reading.{Got};
 ghost use Rattle.reading.specs.Nets.{slash_at, net_read};
 
 use crate::read::read_all;
@@ -12,7 +13,7 @@ use std::alloc::Global;
 
 // The index of the first word `/` after the command.
 fn slash(words: &[&[u8]]) -> Option<usize>
-    ensures { SomeIff result (slash_at (texts words.now) < length words.now) (slash_at (texts words.now)) }
+    ensures { SomeIff result (slash_at (word_bytes words.now) < length words.now) (slash_at (word_bytes words.now)) }
 {
     words
         .iter()
@@ -23,7 +24,7 @@ fn slash(words: &[&[u8]]) -> Option<usize>
 
 // The starts and the heads of a `net` line.
 pub fn read_net(heap: Global, words: &[&[u8]]) -> Result<(Vec<u16>, Vec<u16>), Trouble>
-    ensures { Got (λ p. table p.0.items p.1.items) (net_read (texts words.now)) result }
+    ensures { Got (λ p. table p.0.items p.1.items) (net_read (word_bytes words.now)) result }
 {
     let slash = slash(words);
     let starts = read_all(heap, &words[..slash.unwrap_or(words.len())], 1)?;

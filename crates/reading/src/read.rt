@@ -2,7 +2,8 @@
 ghost use Rattle.std.specs.Prelude.{◌≡◌, ℕ, ◌+◌, List, [], drop, vec_items, Option, slice_index_or};
 ghost use Rattle.answers.specs.declared.trouble.Bounds.{Bounds};
 ghost use Rattle.reading.specs.Spelling.{short_read, long_read, airtime_read, chance_reading, margin_read};
-ghost use Rattle.reading.specs.Reading.{texts, read_all, one_read, Got};
+ghost use Rattle.script.specs.Words.{word_bytes};
+ghost use Rattle.reading.specs.Reading.{read_all, one_read, Got};
 
 use answers::trouble::{Bounds, Trouble};
 use kinds::airtime::Airtime;
@@ -100,7 +101,7 @@ pub(crate) fn read_all<T: Readable>(
     words: &[&[u8]],
     from: usize,
 ) -> Result<Vec<T>, Trouble>
-    ensures { Got vec_items (read_all T.Readable.reads T.Readable.bounds (from + 1) (drop from (texts words.now))) result }
+    ensures { Got vec_items (read_all T.Readable.reads T.Readable.bounds (from + 1) (drop from (word_bytes words.now))) result }
 {
     let mut out = Vec::new(heap);
     for (at, word) in words.iter().enumerate().skip(from) {
@@ -111,21 +112,21 @@ pub(crate) fn read_all<T: Readable>(
 
 // The values that all words after the first spell.
 pub fn read_rest<T: Readable>(heap: Global, words: &[&[u8]]) -> Result<Vec<T>, Trouble>
-    ensures { Got vec_items (read_all T.Readable.reads T.Readable.bounds 2 (drop 1 (texts words.now))) result }
+    ensures { Got vec_items (read_all T.Readable.reads T.Readable.bounds 2 (drop 1 (word_bytes words.now))) result }
 {
     read_all(heap, words, 1)
 }
 
 // The word at an index, counted from 0, or one without a byte beyond the last.
 pub fn word_at<'a>(words: &[&'a [u8]], at: u8) -> &'a [u8]
-    ensures { result.now ≡ slice_index_or (texts words.now) at [] }
+    ensures { result.now ≡ slice_index_or (word_bytes words.now) at [] }
 {
     words.get(usize::from(at)).copied().unwrap_or(b"")
 }
 
 // The value that the word at an index, counted from 0, spells.
 pub fn read_one<T: Readable>(words: &[&[u8]], at: u8) -> Result<T, Trouble>
-    ensures { result ≡ one_read T.Readable.reads T.Readable.bounds (texts words.now) at }
+    ensures { result ≡ one_read T.Readable.reads T.Readable.bounds (word_bytes words.now) at }
 {
     T::read(word_at(words, at)).ok_or(Trouble::NotNumber(usize::from(at) + 1, T::bounds()))
 }

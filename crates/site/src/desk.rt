@@ -1,6 +1,6 @@
 // Carrying out a script line by line.
 ghost use Rattle.std.specs.Prelude.{◌≡◌, None, Some};
-ghost use Rattle.reading.specs.Reading.{texts};
+ghost use Rattle.script.specs.Words.{word_bytes};
 ghost use Rattle.site.specs.Commands.{NetLine, Commanded, comment, Obeys, Obeyed};
 ghost use Rattle.site.specs.Desks.{desk_of};
 ghost use Rattle.site.specs.Replies.{Replied};
@@ -30,7 +30,7 @@ impl Desk {
 
     // Opens a new site, if the lists are a net; else all stays as it was.
     fn open(&mut self, heap: Global, words: &[&[u8]]) -> Result<Answer, Trouble>
-        ensures { NetLine (desk_of self.old) (texts words.now) result (desk_of self.new) }
+        ensures { NetLine (desk_of self.old) (word_bytes words.now) result (desk_of self.new) }
     {
         let (starts, heads) = read_net(heap, words)?;
         match Site::open(heap, starts, heads) {
@@ -46,7 +46,7 @@ impl Desk {
 
     // Carries out a command, whose words these are.
     fn command(&mut self, heap: Global, words: &[&[u8]], verb: Verb) -> Result<Answer, Trouble>
-        ensures { Commanded (Some verb) (desk_of self.old) (texts words.now) result (desk_of self.new) }
+        ensures { Commanded (Some verb) (desk_of self.old) (word_bytes words.now) result (desk_of self.new) }
     {
         match verb {
             Verb::Net => self.open(heap, words),
@@ -72,7 +72,7 @@ impl Desk {
 
     // Carries out a line, whose words these are; a line without a word and a comment have no answer.
     fn follow(&mut self, heap: Global, words: &[&[u8]]) -> Result<Option<Answer>, Trouble>
-        ensures { Obeys (desk_of self.old) (texts words.now) result (desk_of self.new) }
+        ensures { Obeys (desk_of self.old) (word_bytes words.now) result (desk_of self.new) }
     {
         match words.first() {
             Some(word) if !is_comment(word) => {

@@ -1,6 +1,7 @@
 // The grades of a site, in one of the three kinds.
 ghost use Rattle.std.specs.Prelude.{◌≡◌, IfOk};
-ghost use Rattle.reading.specs.Reading.{texts, Got};
+ghost use Rattle.script.specs.Words.{word_bytes};
+ghost use Rattle.reading.specs.Reading.{Got};
 ghost use Rattle.site.specs.Model.{grades_in, grade_count, zeros, grades_read};
 
 use answers::trouble::Trouble;
@@ -32,7 +33,7 @@ pub(crate) fn zero_grades(heap: Global, kind: KindName, count: usize) -> Result<
 
 // The grades that the words after the first spell, in the kind that the site has.
 pub(crate) fn read_grades(heap: Global, like: &Grades, words: &[&[u8]]) -> Result<Grades, Trouble>
-    ensures { Got grades_in (grades_read (grades_in like.now) (texts words.now)) result }
+    ensures { Got grades_in (grades_read (grades_in like.now) (word_bytes words.now)) result }
 {
     match like {
         Grades::ByAirtime(_) => read_rest(heap, words).map(Grades::ByAirtime),

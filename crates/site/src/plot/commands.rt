@@ -1,7 +1,7 @@
 // What the commands do to an open site. Words are counted from 0 here: word 0 is the command itself.
 ghost use Rattle.std.specs.Prelude.{◌≡◌};
 ghost use Rattle.net.specs.View.{table_of};
-ghost use Rattle.reading.specs.Reading.{texts};
+ghost use Rattle.script.specs.Words.{word_bytes};
 ghost use Rattle.site.specs.Model.{grades_in};
 ghost use Rattle.site.specs.Plots.{model_of};
 ghost use Rattle.site.specs.Commands.{KindLine, GradesLine, PathLine, Graded};
@@ -22,7 +22,7 @@ use std::alloc::Global;
 impl Site {
     // Chooses a kind, and gives every link its grade 0.
     pub(crate) fn choose(&mut self, heap: Global, words: &[&[u8]]) -> Result<Answer, Trouble>
-        ensures { KindLine (model_of self.old) (texts words.now) result (model_of self.new) }
+        ensures { KindLine (model_of self.old) (word_bytes words.now) result (model_of self.new) }
     {
         let [_, word] = words else {
             return Err(Trouble::NoKind);
@@ -34,7 +34,7 @@ impl Site {
 
     // Takes the grades that the words spell for those that the site has.
     pub(crate) fn take_grades(&mut self, heap: Global, words: &[&[u8]]) -> Result<Answer, Trouble>
-        ensures { GradesLine (model_of self.old) (texts words.now) result (model_of self.new) }
+        ensures { GradesLine (model_of self.old) (word_bytes words.now) result (model_of self.new) }
     {
         let grades = read_grades(heap, &self.grades, words)?;
         let count = grades.count();
@@ -54,7 +54,7 @@ impl Site {
 
     // The grade of the way whose links the words spell.
     pub(crate) fn path(&self, heap: Global, words: &[&[u8]]) -> Result<Answer, Trouble>
-        ensures { PathLine (model_of self.now) (texts words.now) result }
+        ensures { PathLine (model_of self.now) (word_bytes words.now) result }
     {
         let way = read_rest(heap, words)?;
         graded(&self.net(), &self.grades, way.as_slice())

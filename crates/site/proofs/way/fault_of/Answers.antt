@@ -42,11 +42,9 @@ pub bounds-way-i-in-Parted-2 : goal.bounds-way-i-in-Parted-2
 bounds-way-i-in-Parted-2 c = omega (arith, (apart (goal.at.bounds-way-i-in-Parted-2 c).In-Parted).3)
 
 pub returns-in-Grades : goal.returns-in-Grades
-returns-in-Grades c = (
-  refl,
-  c.links.ensures,
-  λ e. told-uneven (star_of c.args.net.now) c.args.count c.args.way.now (c.requires ∙ ap Some c.in-Grades.is) (e ∙ c.links.ensures),
-)
+returns-in-Grades c =
+    let m : c.from.result ≡ link_count (table_of c.args.net.now) = search rules in
+    (refl, m, λ e. told-uneven (star_of c.args.net.now) c.args.count c.args.way.now (c.requires ∙ ap Some c.in-Grades.is) (e ∙ m))
 
 pub returns-in-Parted : goal.returns-in-Parted
 returns-in-Parted c =
