@@ -95,6 +95,8 @@ impl Readable for Margin {
     }
 }
 
+// The heap and the words of a line stay two parameters here and above, since the library passes the allocator alone, and first.
+
 // The values that the words from an index on spell, or what is wrong with the first that spells none.
 pub(crate) fn read_all<T: Readable>(
     heap: Global,
@@ -104,6 +106,7 @@ pub(crate) fn read_all<T: Readable>(
     ensures { Got vec_items (read_all T.Readable.reads T.Readable.bounds (from + 1) (drop from (word_bytes words.now))) result }
 {
     let mut out = Vec::new(heap);
+    // A loop, since `try_collect` does not ensure that it fails where an item fails.
     for (at, word) in words.iter().enumerate().skip(from) {
         out.push(T::read(word).ok_or(Trouble::NotNumber(at + 1, T::bounds()))?)?;
     }

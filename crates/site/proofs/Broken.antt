@@ -1,5 +1,5 @@
 -- Where a proposed way breaks off: at one of its places, and not because of its first link's tail.
-use Rattle.std.proofs.Common.{◌≡◌, ℕ, ◌+◌, ◌<◌, ◌≤◌, ◌⊎◌, List, [], ◌∷◌, length, Some, refl, subst, inl, inr, arith}
+use Rattle.std.proofs.Common.{◌≡◌, ℕ, ◌+◌, ◌<◌, ◌≤◌, ◌⊎◌, List, [], ◌∷◌, length, Some, sym, refl, subst, inl, inr, arith}
 use Rattle.std.proofs.lemmas.Bool.{cases_lt, cases_eq, lt-ltb, le-ltb, eq-eqb, ne_eqb}
 use Rattle.net.specs.Table.{Table, ForwardStar, station_count, link_count, head_at, tail_at}
 use Rattle.net.proofs.Tails.{tail-leaves}
@@ -9,7 +9,7 @@ use Rattle.paths.specs.Answer.{breaks, not_path}
 use Rattle.site.specs.Ways.{beginning}
 
 -- the place of a break, in a list of n links whose first has place i
-abbrev pub Placed : ℕ → ℕ → NotPath → Type 0
+abbrev Placed : ℕ → ℕ → NotPath → Type 0
 Placed i n Grades = ⊥
 Placed i n NoStation = ⊥
 Placed i n (NoLink j) = (i ≤ j) × (j < i + n)
@@ -28,7 +28,7 @@ longer : (i m n : ℕ) (e : NotPath) → 1 + m ≡ n → Placed (i + 1) m e → 
 longer i m n e f h = subst (λ x. Placed i x e) f (later i m e h)
 
 module _ (t : Table) where
-  pub placed : (p : List ℕ) (i a : ℕ) (e : NotPath) → breaks t i a p ≡ Some e → Placed i (length p) e
+  placed : (p : List ℕ) (i a : ℕ) (e : NotPath) → breaks t i a p ≡ Some e → Placed i (length p) e
   placed [] i a e h = let z : ◌≡◌ {A = ℕ} 0 1 = cc in absurd (omega arith)
   placed (l ∷ p) i a e h =
       elim (cases_lt l (link_count t)) [
@@ -46,7 +46,7 @@ module _ (t : Table) where
       ]
 
   -- the first link does begin where the way does
-  pub parted-late : (way : List ℕ) (j : ℕ) → breaks t 0 (beginning t way) way ≡ Some (Parted j) → (1 ≤ j) × (j < length way)
+  parted-late : (way : List ℕ) (j : ℕ) → breaks t 0 (beginning t way) way ≡ Some (Parted j) → (1 ≤ j) × (j < length way)
   parted-late [] j h = let z : ◌≡◌ {A = ℕ} 0 1 = cc in absurd (omega arith)
   parted-late (l ∷ p) j h =
       elim (cases_lt l (link_count t)) [
@@ -61,9 +61,16 @@ module _ (t : Table) where
             (r.0, omega (arith, r.1))
       ]
 
+-- what is known of a way that is refused so, where there are so many grades
+abbrev pub Told : Table → ℕ → List ℕ → NotPath → Type 0
+Told t count way Grades = count ≡ link_count t → ⊥
+Told t count way NoStation = ⊥
+Told t count way (NoLink i) = (count ≡ link_count t) × (breaks t 0 (beginning t way) way ≡ Some (NoLink i)) × (i < length way)
+Told t count way (Parted i) = (count ≡ link_count t) × (breaks t 0 (beginning t way) way ≡ Some (Parted i)) × (1 ≤ i) × (i < length way)
+
 module _ {t : Table} (star : ForwardStar t) where
   -- a way begins at a station
-  pub begins : (way : List ℕ) → beginning t way < station_count t
+  begins : (way : List ℕ) → beginning t way < station_count t
   begins [] = omega (arith, star.some)
   begins (l ∷ p) =
       elim (cases_lt l (link_count t)) [
@@ -71,8 +78,8 @@ module _ {t : Table} (star : ForwardStar t) where
         | inr m ↦ rw (le-ltb l (link_count t) m) (omega (arith, star.some))
       ]
 
-  -- what is told of a way: the grades are not one per link, or the way breaks off
-  pub told-cases : (count : ℕ) (way : List ℕ) (e : NotPath) → not_path t count (beginning t way) way ≡ Some e
+  -- what is refused of a way: the grades are not one per link, or the way breaks off
+  told-cases : (count : ℕ) (way : List ℕ) (e : NotPath) → not_path t count (beginning t way) way ≡ Some e
       → ((count ≡ link_count t → ⊥) × (e ≡ Grades)) ⊎ ((count ≡ link_count t) × (breaks t 0 (beginning t way) way ≡ Some e))
   told-cases count way e h =
       elim (cases_eq count (link_count t)) [
@@ -82,33 +89,11 @@ module _ {t : Table} (star : ForwardStar t) where
         | inl d ↦ inr (d, rw (eq-eqb count (link_count t) d, lt-ltb (beginning t way) (station_count t) (begins way)) at h)
       ]
 
-  module _ (count : ℕ) (way : List ℕ) where
-    -- a reason of the way's own: there is a grade for each link, and the way breaks off at that place
-    breaks-off : (e : NotPath) → (e ≡ Grades → ⊥) → not_path t count (beginning t way) way ≡ Some e
-        → (count ≡ link_count t) × (breaks t 0 (beginning t way) way ≡ Some e)
-    breaks-off e other h = elim (told-cases count way e h) [ inl (d, g) ↦ absurd (other g) | inr r ↦ r ]
+  broken : (count : ℕ) (way : List ℕ) (e : NotPath) → count ≡ link_count t → breaks t 0 (beginning t way) way ≡ Some e → Told t count way e
+  broken count way Grades n b = absurd (placed t way 0 (beginning t way) Grades b)
+  broken count way NoStation n b = placed t way 0 (beginning t way) NoStation b
+  broken count way (NoLink i) n b = (n, b, omega (arith, (placed t way 0 (beginning t way) (NoLink i) b).1))
+  broken count way (Parted i) n b = let k = parted-late t way i b in (n, b, k.0, k.1)
 
-    pub told-uneven : not_path t count (beginning t way) way ≡ Some Grades → count ≡ link_count t → ⊥
-    told-uneven h n =
-        elim (told-cases count way Grades h) [
-          | inl (d, g) ↦ d n
-          | inr (d, b) ↦ placed t way 0 (beginning t way) Grades b
-        ]
-
-    pub told-no-station : not_path t count (beginning t way) way ≡ Some NoStation → ⊥
-    told-no-station h =
-        placed t way 0 (beginning t way) NoStation
-        (breaks-off NoStation (λ e. let z : ◌≡◌ {A = ℕ} 0 1 = cc in omega arith) h).1
-
-    pub told-no-link : (i : ℕ) → not_path t count (beginning t way) way ≡ Some (NoLink i)
-        → (count ≡ link_count t) × (breaks t 0 (beginning t way) way ≡ Some (NoLink i)) × (i < length way)
-    told-no-link i h =
-        let r = breaks-off (NoLink i) (λ e. let z : ◌≡◌ {A = ℕ} 0 1 = cc in omega arith) h in
-        (r.0, r.1, omega (arith, (placed t way 0 (beginning t way) (NoLink i) r.1).1))
-
-    pub told-parted : (i : ℕ) → not_path t count (beginning t way) way ≡ Some (Parted i)
-        → (count ≡ link_count t) × (breaks t 0 (beginning t way) way ≡ Some (Parted i)) × (1 ≤ i) × (i < length way)
-    told-parted i h =
-        let r = breaks-off (Parted i) (λ e. let z : ◌≡◌ {A = ℕ} 0 1 = cc in omega arith) h in
-        let k = parted-late t way i r.1 in
-        (r.0, r.1, k.0, k.1)
+  pub told : (count : ℕ) (way : List ℕ) (e : NotPath) → not_path t count (beginning t way) way ≡ Some e → Told t count way e
+  told count way e h = elim (told-cases count way e h) [ inl (d, g) ↦ subst (Told t count way) (sym g) d | inr (n, b) ↦ broken count way e n b ]

@@ -13,6 +13,7 @@ use reading::read::read_rest;
 use std::alloc::{AllocError, Global};
 
 // The grades of a site's links, in the kind that was chosen.
+// The kind is chosen at run time, and each kind has a type of its own: what is done with grades needs an arm for each.
 #[derive(Drop)]
 pub enum Grades {
     ByAirtime(Vec<Airtime>),
