@@ -14,7 +14,7 @@ pub enum ListName {
     Bucket,
 }
 
-// That no list has a number or a name.
+// A number or a word that stands for no list.
 #[derive(Clone, Copy, Debug, PartialEq, Eq)]
 pub struct UnknownList;
 

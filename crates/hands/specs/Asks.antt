@@ -45,18 +45,21 @@ module _ {L : Type 0} (reads : List ℕ → Option L) (bounds : Bounds) where
       then and_then (short_at ws 2) (λ i. and_then (one_read reads bounds ws 3) (λ a. Ok (i, a)))
       else Err (Usage usage.Poke)
 
+-- a trouble, or a refusal, as the reason why no list is chosen
 abbrev pub or_troubled : {A : Type 0} → Result A Trouble → Result A NotChosen
 or_troubled r = result_map_both (λ a. a) Troubled r
 
 abbrev pub or_refused : {A : Type 0} → Result A KindFault → Result A NotChosen
 or_refused r = result_map_both (λ a. a) Refused r
 
+-- the width and the span of buckets
+abbrev pub buckets_asked : {G : Type 0} → List (List ℕ) → Result (Choice G) NotChosen
+buckets_asked ws = or_troubled (and_then (one_read long_read Bounds.Long ws 2) (λ width. and_then (one_read long_read Bounds.Long ws 3) (λ span. Ok (choice.Bucket width span))))
+
 module _ {S G : Type 0} (reads : List ℕ → Option S) (bounds : Bounds) (makes : S → Result G KindFault) where
+  -- the step of a threshold list
   abbrev pub step_asked : List (List ℕ) → Result (Choice G) NotChosen
   step_asked ws = and_then (or_troubled (one_read reads bounds ws 2)) (λ s. and_then (or_refused (makes s)) (λ g. Ok (choice.Threshold g)))
-
-  abbrev pub buckets_asked : List (List ℕ) → Result (Choice G) NotChosen
-  buckets_asked ws = or_troubled (and_then (one_read long_read Bounds.Long ws 2) (λ width. and_then (one_read long_read Bounds.Long ws 3) (λ span. Ok (choice.Bucket width span))))
 
   -- a list by its name, in a line of so many words
   abbrev pub list_asked : Option ListName → ℕ → List (List ℕ) → Result (Choice G) NotChosen

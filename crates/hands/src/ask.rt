@@ -76,8 +76,8 @@ fn step_asked<G: Single>(words: &[&[u8]]) -> Result<Choice<G>, NotChosen>
 }
 
 // The width and the span of buckets.
-fn buckets_asked<G: Single>(words: &[&[u8]]) -> Result<Choice<G>, NotChosen>
-    ensures { result ≡ buckets_asked G.Spelt.reads G.Spelt.bounds G.makes (word_bytes words.now) }
+fn buckets_asked<G>(words: &[&[u8]]) -> Result<Choice<G>, NotChosen>
+    ensures { result ≡ buckets_asked (word_bytes words.now) }
 {
     Ok(Choice::Bucket(read_one(words, 2)?, read_one(words, 3)?))
 }
