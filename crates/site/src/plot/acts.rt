@@ -20,6 +20,7 @@ pub enum NotOpened {
     Memory,
 }
 
+// These are written out, since `Opens` names the error that `?` makes: a derived `From` has no `from_gives`.
 impl From<NetFault> for NotOpened {
     ghost from_gives = { λ e r. r ≡ Refused e };
 
