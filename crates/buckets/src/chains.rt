@@ -1,4 +1,4 @@
-// Queues of stations, as chains of links.
+// Queues of stations, as chains of nodes.
 ghost use Rattle.std.specs.Prelude.{◌≡◌, ℕ, ◌+◌, ◌<◌, true, length, is_some, None, slice_index, slice_index_or};
 ghost use Rattle.std.specs.Option.{ForSome};
 ghost use Rattle.lists.specs.Meaning.{count_below};
@@ -10,7 +10,7 @@ use crate::node::Node;
 
 // 64 queues of stations below 1,024, each station in at most one. The nodes below 1,024 are the stations, and 1,024 + b is both ends of
 // the chain b; `home` tells of each station the chain that it is in.
-// They are links in arrays, since no list may fail for want of memory, and any station leaves in constant time.
+// They are nodes in one array, since no list may fail for want of memory, and any station leaves in constant time; `home` is apart from the nodes, since the two ends of a chain are in none.
 #[derive(Drop)]
 pub struct Chains {
     nodes: [Node; 1088],

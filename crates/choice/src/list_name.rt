@@ -27,7 +27,7 @@ impl ListName {
         ListName::Bucket,
     ];
 
-    // The name as a text, beside `Display`: `try_from` compares words with it, which would else need a String.
+    // The name as a text, beside `Display`: this cannot fail, as writing can.
     pub fn word(self) -> &'static str
         ensures { result.now ≡ list_word self }
     {

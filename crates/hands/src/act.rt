@@ -41,7 +41,7 @@ impl<L: Readable, G> Holding<L, G> {
 }
 
 impl<L, G> Holding<L, G> {
-    // `list`: the list that was asked for, new and empty, takes the place of the one that is held.
+    // `list`: the list that was asked for, new and empty, takes the place of the one that is held. It takes what `choice_asked` answers, since the clause holds of any choice, whoever made it.
     pub fn take_list<K: Kind<Label = L, Grade = G>>(
         &mut self,
         asked: Result<Choice<G>, NotChosen>,

@@ -20,6 +20,7 @@ pub enum NotChosen {
     Troubled(Trouble),
 }
 
+// These are written out, since clauses name the error that `?` makes: a derived `From` has no `from_gives`.
 impl From<KindFault> for NotChosen {
     ghost from_gives = { λ fault r. r ≡ Refused fault };
 

@@ -13,7 +13,7 @@ use kinds::kind::Kind;
 use refusals::list::ListFault;
 
 // A station enters at the bottom and is picked from the top.
-// It stands apart from the small-label and two-ended lists: a trait for their rules would be longer than the calls that they share.
+// It stands apart from the small-label and two-ended lists: they differ in model, order and the proof of their laws, each of which a trait for their rules would have to name for each.
 #[derive(Drop)]
 pub struct FirstIn {
     queue: Queue,

@@ -6,5 +6,5 @@ ghost use Rattle.std.specs.List.{slice_get};
 pub fn handed<L: Copy>(labels: &[L], station: u16) -> Option<L>
     ensures { result ≡ slice_get labels.now station }
 {
-    labels.get(station as usize).copied()
+    labels.get(usize::from(station)).copied()
 }

@@ -7,7 +7,7 @@ use crate::queue::Queue;
 #[derive(Drop)]
 pub struct TwoEnded {
     queue: Queue,
-    // Which stations have entered since emptying.
+    // Which stations have entered since emptying: an array, since a set of the library lies on the heap.
     seen: [bool; 1024],
     ghost fits: { length seen ≡ 1024 },
 }

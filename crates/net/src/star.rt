@@ -3,6 +3,7 @@ ghost use Rattle.std.specs.Prelude.{◌≡◌, ◌-◌, ◌≤◌, length, slice
 ghost use Rattle.net.specs.Table.{Rising, Within};
 
 // A net: a view of the caller's lists of starts and heads.
+// It has no `Model`, which would hide the two lists: `fill` promises that the view is of these very ones.
 // Station s is the tail of the links starts[s] up to, and not with, starts[s + 1]; the head of link l is the station heads[l].
 #[derive(Clone, Copy)]
 pub struct Net<'a> {

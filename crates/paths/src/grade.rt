@@ -1,4 +1,4 @@
-// The grade of a path, under every kind.
+// The grade of a path, under every kind. Indices are cast: `usize::from` at each is no plainer, and a step more in every proof.
 ghost use Rattle.std.specs.Prelude.{◌≡◌, length, Some, MatchResult};
 ghost use Rattle.net.specs.Table.{link_count};
 ghost use Rattle.net.specs.View.{table_of};
@@ -33,7 +33,7 @@ pub fn grade_path<K: Kind>(
     ensures path { MatchResult result (λ _. (length grades.now ≡ link_count (table_of net.now)) × PathFrom (table_of net.now) from way.now) (λ _. length grades.now ≡ link_count (table_of net.now) → ¬ PathFrom (table_of net.now) from way.now) }
     ensures told { MatchResult result (λ x. path_grade K.Kind grades.now way.now ≡ Some x) (λ e. not_path (table_of net.now) (length grades.now) from way.now ≡ Some e) }
 {
-    if grades.len() != net.links() as usize {
+    if grades.len() != usize::from(net.links()) {
         return Err(NotPath::Grades);
     }
     if from >= net.stations() {

@@ -1,4 +1,4 @@
-// Simple paths.
+// Simple paths. Indices are cast: `usize::from` at each is no plainer, and a step more in every proof.
 ghost use Rattle.std.specs.Prelude.{◌<◌, ◌↔◌, length, IsTrue, MatchOption, slice_index};
 ghost use Rattle.net.specs.Table.{Leaves};
 ghost use Rattle.net.specs.View.{table_of};

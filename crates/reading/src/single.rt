@@ -9,6 +9,7 @@ use kinds::chance::Chance;
 use kinds::margin::Margin;
 use refusals::kind::KindFault;
 
+// No `TryFrom`: it also names what a word spells for the grade, and all have one error.
 // A grade that is made singly. In a list a number may stand for the nearest grade there is; a single number for which there is no grade is
 // refused.
 pub trait Single: Copy {

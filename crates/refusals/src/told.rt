@@ -30,6 +30,7 @@ impl fmt::Display for Layer {
 }
 
 // A refusal as the technician meets it: its number, the station, link or count that it is about (0 where none is named), and its layer.
+// Number and place are numbers, and the place no `Option`, since that is how the table of refusals and the program tell them; code matches on the enums.
 #[derive(Clone, Copy, Debug, PartialEq, Eq)]
 pub struct Told {
     pub number: u8,

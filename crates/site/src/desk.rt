@@ -56,6 +56,7 @@ impl Desk {
     fn command(&mut self, heap: Global, words: &[&[u8]], verb: Verb) -> Result<Answer, Trouble>
         ensures { Commanded (Some verb) self.old (word_bytes words.now) result self.new }
     {
+        // Each arm asks for the site itself: the list commands are unknown before there is a net, too.
         match verb {
             Verb::Net => self.open(heap, words),
             Verb::Site(SiteVerb::Kind) => self

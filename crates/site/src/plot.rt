@@ -7,7 +7,7 @@ ghost use Rattle.site.specs.Model.{Model, grades_in};
 use crate::grades::Grades;
 use std::marker::Model;
 
-// An open site: the two lists of its net, which are one, and its grades.
+// An open site: the two lists of its net, which are one, and its grades. They are two lists and no struct of both: `Net::fill` takes them so, and the net is that struct.
 #[derive(Drop)]
 pub struct Site {
     starts: Vec<u16>,

@@ -26,7 +26,7 @@ fn fault_of(net: &Net, count: usize, way: &[u16], found: NotPath) -> WayFault
 {
     match found {
         NotPath::Grades => WayFault::Grades(count, usize::from(net.links())),
-        NotPath::NoStation => unreachable(),
+        NotPath::NoStation => unreachable!(),
         NotPath::NoLink(i) => WayFault::NoLink(way[i]),
         NotPath::Parted(i) => WayFault::Parted(way[i], way[i - 1]),
     }

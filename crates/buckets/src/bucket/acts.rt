@@ -16,10 +16,10 @@ use lists::station::Station;
 use refusals::list::ListFault;
 
 // The rank of a station's label, or 0 where it was not handed over.
-fn rank_of<K: Kind>(labels: &[K::Label], station: u16) -> u32
-    ensures { result ≡ rank_of K.Kind.rank (slice_get labels.now station) }
+fn rank_of<K: Kind>(labels: &[K::Label], station: Station) -> u32
+    ensures { result ≡ rank_of K.Kind.rank (slice_get labels.now station.index) }
 {
-    handed(labels, station).map_or(0, |label| K::rank(label))
+    handed(labels, station.index()).map_or(0, |label| K::rank(label))
 }
 
 impl Bucket {
@@ -43,7 +43,7 @@ impl Bucket {
         ensures is { result ≡ bucket_at (ring_of self.now) rank }
         ensures within { result < length (ring_of self.now).rows }
     {
-        (rank / self.width % self.shelves.count() as u32) as u8
+        (rank / self.width % u32::from(self.shelves.count())) as u8
     }
 }
 
@@ -65,7 +65,7 @@ impl<K: Kind> CandidateList<K> for Bucket {
 
     fn enter(&mut self, station: u16, labels: &[K::Label]) -> Result<Entered, ListFault> {
         let station = Station::try_from(station)?;
-        let bucket = self.bucket_of(rank_of::<K>(labels, station.index()));
+        let bucket = self.bucket_of(rank_of::<K>(labels, station));
         Ok(self.shelves.place(bucket, station))
     }
 

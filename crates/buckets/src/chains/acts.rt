@@ -1,4 +1,4 @@
-// What chains do.
+// What chains do. Indices are cast: `usize::from` at each is no plainer, and a step more in every proof.
 ghost use Rattle.std.specs.Prelude.{◌≡◌, ℕ, ◌+◌, ◌<◌, true, false, [], ◌∷◌, ◌++◌, length, if◌then◌else◌, nat_eq, option_map, slice_index};
 ghost use Rattle.lists.specs.Meaning.{count_below};
 ghost use Rattle.lists.specs.Stations.{top_of};

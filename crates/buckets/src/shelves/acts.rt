@@ -13,6 +13,7 @@ use crate::small_set::SmallSet;
 use lists::list::Entered;
 use lists::station::Station;
 
+// `many` follows from `after`; it is said beside it so that the bucket list's own invariant is proved without lemmas on lengths.
 // A row is asked to be below the count of this value, which is tighter than what a type for numbers below 64 would tell.
 impl Shelves {
     pub(crate) fn new(count: u8) -> Shelves

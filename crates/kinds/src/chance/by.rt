@@ -22,7 +22,7 @@ impl Chance {
         }
     }
 
-    // One chance from its parts; a number above 65,536 is refused.
+    // One chance from its parts; a number above 65,536 is refused. No `TryFrom`: a number becomes a chance in two ways, cut or refused, and the names tell them apart.
     pub fn new(number: u32) -> Result<Chance, KindFault>
         ensures { result ≡ chance_made number }
     {

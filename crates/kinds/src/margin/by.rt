@@ -59,7 +59,7 @@ impl Kind for ByMargin {
     }
 
     fn rank(label: Margin) -> u32 {
-        (127 - label.decibels as i32) as u32
+        (127 - i32::from(label.decibels)) as u32
     }
 }
 

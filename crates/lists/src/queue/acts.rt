@@ -1,4 +1,4 @@
-// What a queue does.
+// What a queue does. Indices are cast: `usize::from` at each is no plainer, and a step more in every proof.
 ghost use Rattle.std.specs.Prelude.{◌≡◌, ◌<◌, ◌≤◌, false, [], ◌∷◌, ◌++◌, length, option_map, slice_index};
 ghost use Rattle.lists.specs.Meaning.{count_below};
 ghost use Rattle.lists.specs.Queues.{line_of};

@@ -37,7 +37,7 @@ fn better_of<K: Kind>(best: Option<K::Label>, a: K::Label) -> K::Label
     }
 }
 
-// The best label of a queue, or none where one was not handed over or the queue is empty. It counts places: a ring has no slice of its stations.
+// The best label of a queue, or none where one was not handed over or the queue is empty. It counts places: a ring has no slice of its stations, and an iterator of its own would serve this loop alone.
 fn best_label<K: Kind>(labels: &[K::Label], queue: &Queue) -> Option<K::Label>
     ensures { result ≡ best_label K.Kind labels.now (line_of queue.now) }
 {
@@ -60,6 +60,7 @@ fn part<K: Kind>(
     ensures over { line_of first.new ≡ filter (λ x. passes K.Kind limit (slice_get labels.now x)) (line_of second.old) }
     ensures left { line_of second.new ≡ filter (λ x. not (passes K.Kind limit (slice_get labels.now x))) (line_of second.old) }
 {
+    // As many turns as it has stations at first: some go back to its bottom.
     for _ in 0..second.len() {
         if let Some(station) = second.pop() {
             if passing::<K>(limit, handed(labels, station.index())) {

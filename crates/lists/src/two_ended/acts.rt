@@ -1,4 +1,4 @@
-// What the two-ended list does.
+// What the two-ended list does. Indices are cast: `usize::from` at each is no plainer, and a step more in every proof.
 ghost use Rattle.std.specs.Prelude.{◌≡◌};
 ghost use Rattle.lists.specs.TwoEndeds.{ends, no_ends, two_ended};
 ghost use Rattle.lists.specs.Order.{waits_by, emptied_by, entered_by, picked_by};

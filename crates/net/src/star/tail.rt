@@ -20,6 +20,7 @@ impl Net<'_> {
         ensures lies { MatchOption result (link_count (table_of self.now) ≤ link) (λ t. Leaves (table_of self.now) link t) }
         ensures is { result ≡ tail_of (table_of self.now) link }
     {
+        // An `if`: a closure for `then` would have to repeat the contract of `search`.
         if link < self.links() {
             Some(self.search(link))
         } else {

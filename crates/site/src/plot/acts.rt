@@ -52,6 +52,7 @@ impl Site {
         })
     }
 
+    // As `Net::stations` and `Net::links`, without a net: making one would test the lists again.
     pub(crate) fn stations(&self) -> u16
         ensures { result ≡ station_count self.now.links }
     {
