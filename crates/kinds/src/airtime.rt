@@ -1,7 +1,7 @@
 // Airtimes.
 ghost use Rattle.std.specs.Prelude.{◌≡◌, ◌≤◌};
 
-// How long a reading is in the air: microseconds, where 4,294,967,295 stands for that many or more.
+// How long a reading is in the air: microseconds, where 4,294,967,295 stands for that many or more. The order is that of the numbers: the smaller airtime is the better.
 #[derive(Clone, Copy, Debug, PartialEq, Eq, PartialOrd, Ord)]
 pub struct Airtime {
     micros: u32,

@@ -4,6 +4,10 @@ use Rattle.std.proofs.lemmas.Bool.{cases_lt, cases_Bool}
 use borrow.Author.Count.{below_more}
 use Rattle.net.specs.First.{first_below}
 
+-- none of the first n passes, nor the next: none of one more
+below_suc : (p : ℕ → Bool) (n : ℕ) → ((k : ℕ) → k < n → p k ≡ false) → p n ≡ false → (k : ℕ) → k < suc n → p k ≡ false
+below_suc p n h f k l = below_more (λ j. p j ≡ false) n h f k (omega arith)
+
 -- none passes: the answer is none
 pub none_is : (p : ℕ → Bool) (n : ℕ) → ((k : ℕ) → k < n → p k ≡ false) → first_below p n ≡ None
 unfolding first_below
@@ -32,7 +36,7 @@ first-tells p (suc n) =
       | inl (h, e) ↦
           elim (cases_Bool (p n)) [
             | inl t ↦ inr (n, omega arith, t, h, rw (e, t))
-            | inr f ↦ inl (λ k l. below_more (λ j. p j ≡ false) n h f k (omega arith), rw (e, f))
+            | inr f ↦ inl (below_suc p n h f, rw (e, f))
           ]
     ]
 

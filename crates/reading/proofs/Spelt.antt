@@ -1,5 +1,5 @@
 -- Reading words one by one gives what they spell.
-use Rattle.std.proofs.Common.{◌≡◌, ℕ, ◌+◌, ◌<◌, List, [], ◌∷◌, ◌++◌, length, get_or, drop, Some, None, Ok, Err, Option, Result, MatchResult, sym, refl, ap, ◌∙◌, append_assoc, arith, length-drop, get_or-drop, Bor}
+use Rattle.std.proofs.Common.{◌≡◌, ℕ, ◌+◌, ◌<◌, ◌≤◌, List, [], ◌∷◌, ◌++◌, length, get_or, take, drop, Some, None, Ok, Err, Option, Result, MatchResult, sym, refl, ap, ◌∙◌, append_assoc, arith, length-take, length-drop, get_or-take, get_or-drop, Bor}
 use lib.ListN.{length-map, get_or-map}
 use Rattle.std.proofs.lemmas.List.{drop_more, get_or_default}
 use Rattle.std.proofs.lemmas.List.FromFn.{length-enumerate_from, get_or-enumerate_from}
@@ -20,14 +20,30 @@ after_one : {T : Type 0} (xs : List T) (x : T) (e : Trouble) (r : Result (List T
 after_one xs x e (Ok ys) = ap Ok (sym (append_assoc xs (x ∷ []) ys))
 after_one xs x e (Err f) = refl
 
+module _ {T : Type 0} (reads : List ℕ → Option T) (bounds : Bounds) (ws : List (List ℕ)) (i : ℕ) (xs : List T) where
+  -- the word at i spells x
+  pub read_one : (x : T) → i < length ws → Some x ≡ reads (get_or ws i [])
+      → after xs (read_all reads bounds (i + 1) (drop i ws)) ≡ after (xs ++ x ∷ []) (read_all reads bounds (i + 1 + 1) (drop (i + 1) ws))
+  read_one x h e = rw (drop_more ws i [] h, ← e) (after_one xs x (NotNumber (i + 1) bounds) (read_all reads bounds (i + 1 + 1) (drop (i + 1) ws)))
+
+  -- it spells nothing
+  pub read_none : i < length ws → None ≡ reads (get_or ws i []) → after xs (read_all reads bounds (i + 1) (drop i ws)) ≡ Err (NotNumber (i + 1) bounds)
+  read_none h e = rw (drop_more ws i [] h, ← e)
+
+-- a word behind a reference
+pub word_at : (refs : List (Bor (List ℕ))) (d : Bor (List ℕ)) (to i : ℕ) → i < to → (get_or refs i d).now ≡ get_or (take to (word_bytes refs)) i d.now
+word_at refs d to i h = sym (get_or-take to (word_bytes refs) i d.now h ∙ get_or-map (λ x. x.now) refs i d)
+
+pub words_long : (refs : List (Bor (List ℕ))) (to : ℕ) → to ≤ length refs → length (take to (word_bytes refs)) ≡ to
+words_long refs to h = simp (length-take, length-map) (omega arith)
+
 -- the word at index i gives one value more, or ends the reading
 one_more : {T : Type 0} (reads : List ℕ → Option T) (bounds : Bounds) (ws : List (List ℕ)) (i : ℕ) (xs : List T) (o : Option T) (r : Result T Trouble) → i < length ws
     → o ≡ reads (get_or ws i []) → r ≡ ok_or o (NotNumber (i + 1) bounds)
     → MatchResult r (λ x. after xs (read_all reads bounds (i + 1) (drop i ws)) ≡ after (xs ++ x ∷ []) (read_all reads bounds (i + 1 + 1) (drop (i + 1) ws)))
     (λ e. after xs (read_all reads bounds (i + 1) (drop i ws)) ≡ Err e)
-one_more reads bounds ws i xs None r h e v = rw (v, drop_more ws i [] h, ← e)
-one_more reads bounds ws i xs (Some x) r h e v =
-    rw (v, drop_more ws i [] h, ← e) (after_one xs x (NotNumber (i + 1) bounds) (read_all reads bounds (i + 1 + 1) (drop (i + 1) ws)))
+one_more reads bounds ws i xs None r h e v = rw v (read_none reads bounds ws i xs h e)
+one_more reads bounds ws i xs (Some x) r h e v = rw v (read_one reads bounds ws i xs x h e)
 
 -- the same of the n-th of the words from an index on, each with its index
 pub turn : {T : Type 0} (reads : List ℕ → Option T) (bounds : Bounds) (words : List (Bor (List ℕ))) (from n : ℕ) (xs : List T) (x : ℕ × Bor (List ℕ)) (o : Option T) (b : Bounds) (r : Result T Trouble)

@@ -1,8 +1,8 @@
 // Carrying out a script line by line.
-ghost use Rattle.std.specs.Prelude.{◌≡◌, None, Some, Option};
+ghost use Rattle.std.specs.Prelude.{◌≡◌, None, Some};
 ghost use Rattle.script.specs.Words.{word_bytes};
 ghost use Rattle.site.specs.Commands.{NetLine, Commanded, comment, Obeys, Obeyed};
-ghost use Rattle.site.specs.Model.{Model};
+ghost use Rattle.site.specs.Desks.{desk_of};
 ghost use Rattle.site.specs.Replies.{Replied};
 
 use crate::plot::Site;
@@ -14,7 +14,6 @@ use reading::net_line::read_net;
 use refusals::told::Fault;
 use script::words::words;
 use std::alloc::{AllocError, Global};
-use std::marker::Model;
 
 // Where a script is carried out, line by line: the site that it works on, once a net was accepted.
 #[derive(Drop)]
@@ -22,23 +21,16 @@ pub struct Desk {
     site: Option<Site>,
 }
 
-// What contracts see of a desk: the site that is open, if one is.
-impl Model for Desk {
-    ghost Value = { Option Model };
-
-    ghost view = { λ d. d.site };
-}
-
 impl Desk {
     pub fn new() -> Desk
-        ensures { result ≡ None }
+        ensures { desk_of result ≡ None }
     {
         Desk { site: None }
     }
 
     // Opens a new site, if the lists are a net; else all stays as it was.
     fn open(&mut self, heap: Global, words: &[&[u8]]) -> Result<Answer, Trouble>
-        ensures { NetLine self.old (word_bytes words.now) result self.new }
+        ensures { NetLine (desk_of self.old) (word_bytes words.now) result (desk_of self.new) }
     {
         let (starts, heads) = read_net(heap, words)?;
         match Site::open(heap, starts, heads) {
@@ -54,7 +46,7 @@ impl Desk {
 
     // Carries out a command, whose words these are.
     fn command(&mut self, heap: Global, words: &[&[u8]], verb: Verb) -> Result<Answer, Trouble>
-        ensures { Commanded (Some verb) self.old (word_bytes words.now) result self.new }
+        ensures { Commanded (Some verb) (desk_of self.old) (word_bytes words.now) result (desk_of self.new) }
     {
         // Each arm asks for the site itself: the list commands are unknown before there is a net, too.
         match verb {
@@ -81,7 +73,7 @@ impl Desk {
 
     // Carries out a line, whose words these are; a line without a word and a comment have no answer.
     fn follow(&mut self, heap: Global, words: &[&[u8]]) -> Result<Option<Answer>, Trouble>
-        ensures { Obeys self.old (word_bytes words.now) result self.new }
+        ensures { Obeys (desk_of self.old) (word_bytes words.now) result (desk_of self.new) }
     {
         match words.first() {
             Some(word) if !is_comment(word) => {
@@ -93,7 +85,7 @@ impl Desk {
 
     // Carries out one line of a script: what it answers, or nothing where it is blank or a comment.
     pub fn obey(&mut self, heap: Global, line: &[u8]) -> Result<Option<Answer>, Trouble>
-        ensures { Obeyed self.old line.now result self.new }
+        ensures { Obeyed (desk_of self.old) line.now result (desk_of self.new) }
     {
         let all = words(heap, line)?;
         self.follow(heap, all.as_slice())
@@ -106,7 +98,7 @@ impl Desk {
         number: u64,
         line: &[u8],
     ) -> Result<Option<String>, AllocError>
-        ensures { Replied self.old number line.now result self.new }
+        ensures { Replied (desk_of self.old) number line.now result (desk_of self.new) }
     {
         match self.obey(heap, line) {
             Ok(None) => Ok(None),

@@ -3,6 +3,7 @@ ghost use Rattle.std.specs.Prelude.{◌≡◌};
 ghost use Rattle.net.specs.View.{table_of};
 ghost use Rattle.script.specs.Words.{word_bytes};
 ghost use Rattle.site.specs.Model.{grades_in};
+ghost use Rattle.site.specs.Plots.{model_of};
 ghost use Rattle.site.specs.Commands.{KindLine, GradesLine, PathLine, Graded};
 
 use super::Site;
@@ -21,7 +22,7 @@ use std::alloc::Global;
 impl Site {
     // Chooses a kind, and gives every link its grade 0.
     pub(crate) fn choose(&mut self, heap: Global, words: &[&[u8]]) -> Result<Answer, Trouble>
-        ensures { KindLine self.old (word_bytes words.now) result self.new }
+        ensures { KindLine (model_of self.old) (word_bytes words.now) result (model_of self.new) }
     {
         let [_, word] = words else {
             return Err(Trouble::NoKind);
@@ -33,7 +34,7 @@ impl Site {
 
     // Takes the grades that the words spell for those that the site has.
     pub(crate) fn take_grades(&mut self, heap: Global, words: &[&[u8]]) -> Result<Answer, Trouble>
-        ensures { GradesLine self.old (word_bytes words.now) result self.new }
+        ensures { GradesLine (model_of self.old) (word_bytes words.now) result (model_of self.new) }
     {
         let grades = read_grades(heap, &self.grades, words)?;
         let count = grades.count();
@@ -43,7 +44,7 @@ impl Site {
 
     // The net of the site's lists.
     fn net(&self) -> Net<'_>
-        ensures { table_of result ≡ self.now.links }
+        ensures { table_of result ≡ (model_of self.now).links }
     {
         let mut net = Net::single();
         net.fill(self.starts.as_slice(), self.heads.as_slice())
@@ -53,7 +54,7 @@ impl Site {
 
     // The grade of the way whose links the words spell.
     pub(crate) fn path(&self, heap: Global, words: &[&[u8]]) -> Result<Answer, Trouble>
-        ensures { PathLine self.now (word_bytes words.now) result }
+        ensures { PathLine (model_of self.now) (word_bytes words.now) result }
     {
         let way = read_rest(heap, words)?;
         graded(&self.net(), &self.grades, way.as_slice())

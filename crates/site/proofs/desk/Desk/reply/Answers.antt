@@ -5,6 +5,7 @@ use Rattle.std.specs.declared.alloc.Global.{Global}
 use Rattle.answers.specs.Texts.{error_text}
 use Rattle.answers.specs.declared.trouble.Trouble.{Trouble}
 use Rattle.site.specs.Commands.{Obeyed}
+use Rattle.site.specs.Desks.{desk_of}
 use Rattle.site.specs.Model.{Model}
 use Rattle.site.specs.Replies.{Replied}
 use Rattle.site.proofs.desk.Desk.reply.Goals as goal
@@ -16,4 +17,4 @@ replied o p n line e (Err x) r k t m = rw m (Err e, k)
 
 pub returns-in-Err : goal.returns-in-Err
 returns-in-Err c =
-    replied c.args.self.now c.obey.new.self c.args.number c.args.line.now c.in-Err.trouble c.format-in-Err.result c.map-in-Err.result c.in-Err.ensures c.format-in-Err.ensures.ok (search rules)
+    replied (desk_of c.args.self.now) (desk_of c.obey.new.self) c.args.number c.args.line.now c.in-Err.trouble c.format-in-Err.result c.map-in-Err.result c.in-Err.ensures c.format-in-Err.ensures.ok (search rules)
