@@ -8,6 +8,7 @@ use crate::chains::Chains;
 use crate::small_set::SmallSet;
 
 // The first `count` chains, as rows. `busy` tells of each whether it has a station, so that the next that has one is found in constant time.
+// It has no `Model`, nor have the chains, which would hide these facts, and the laws of the list rest on them.
 #[derive(Drop)]
 pub struct Shelves {
     chains: Chains,

@@ -24,6 +24,7 @@ pub enum NotPath {
 }
 
 // The grade of the path that begins at station `from` and goes over the links of `way` in their order.
+// Net and grades are no struct: the grades are a list beside the net, of any length, and this refuses one that does not fit.
 pub fn grade_path<K: Kind>(
     net: &Net,
     grades: &[K::Grade],

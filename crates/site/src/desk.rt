@@ -100,6 +100,7 @@ impl Desk {
     ) -> Result<Option<String>, AllocError>
         ensures { Replied (desk_of self.old) number line.now result (desk_of self.new) }
     {
+        // A `match`: `transpose` over a closure that allocates is no plainer.
         match self.obey(heap, line) {
             Ok(None) => Ok(None),
             Ok(Some(answer)) => format!(in heap; "{answer}").map(Some),
