@@ -35,7 +35,8 @@ impl Desk {
         let (starts, heads) = read_net(heap, words)?;
         match Site::open(heap, starts, heads) {
             Ok(site) => {
-                let answer = Answer::Net(site.stations(), site.links());
+                let net = site.net();
+                let answer = Answer::Net(net.stations(), net.links());
                 self.site = Some(site);
                 Ok(answer)
             }

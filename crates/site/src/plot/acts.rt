@@ -1,8 +1,8 @@
 // Opening a site.
 ghost use Rattle.std.specs.Prelude.{◌≡◌};
-ghost use Rattle.net.specs.Table.{table, station_count, link_count};
+ghost use Rattle.net.specs.Table.{table};
 ghost use Rattle.site.specs.declared.plot.acts.NotOpened.TheVariants.{Refused, Memory};
-ghost use Rattle.site.specs.Plots.{model_of, Opens};
+ghost use Rattle.site.specs.Plots.{Opens};
 
 use super::Site;
 use crate::grades::zero_grades;
@@ -50,18 +50,5 @@ impl Site {
             heads,
             grades,
         })
-    }
-
-    // As `Net::stations` and `Net::links`, without a net: making one would test the lists again.
-    pub(crate) fn stations(&self) -> u16
-        ensures { result ≡ station_count (model_of self.now).links }
-    {
-        (self.starts.len() - 1) as u16
-    }
-
-    pub(crate) fn links(&self) -> u16
-        ensures { result ≡ link_count (model_of self.now).links }
-    {
-        self.heads.len() as u16
     }
 }

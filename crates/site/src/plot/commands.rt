@@ -43,7 +43,7 @@ impl Site {
     }
 
     // The net of the site's lists.
-    fn net(&self) -> Net<'_>
+    pub(crate) fn net(&self) -> Net<'_>
         ensures { table_of result ≡ (model_of self.now).links }
     {
         let mut net = Net::single();
