@@ -23,6 +23,7 @@ impl fmt::Display for Label {
     ghost output = { λ x. Some (label_text x) };
 
     fn fmt<W: fmt::Write>(&self, f: &mut fmt::Formatter<W>) -> fmt::Result {
+        // An arm for each kind, since each has a type of its own.
         match self {
             Label::Airtime(x) => write!(f, "{x}"),
             Label::Chance(x) => write!(f, "{x}"),

@@ -88,6 +88,7 @@ module _ (s : Chains) where
   unfolding queues
   queues-many = length-map-range_with_len (row s) 0 64
 
+  -- (nothing cites it today)
   pub in-queues : (b x : ℕ) → b < 64 → holds (row s b) x ≡ true → in_rows (queues s) x ≡ true
   in-queues b x l i = in-at (queues s) b x (ap (λ q. holds q x) (queue-at b l) ∙ i)
 

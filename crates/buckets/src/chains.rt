@@ -11,6 +11,7 @@ use crate::node::Node;
 // 64 queues of stations below 1,024, each station in at most one. The nodes below 1,024 are the stations, and 1,024 + b is both ends of
 // the chain b; `home` tells of each station the chain that it is in.
 // They are nodes in one array, since no list may fail for want of memory, and any station leaves in constant time; `home` is apart from the nodes, since the two ends of a chain are in none.
+// They have no `Model`, which would hide these facts.
 #[derive(Drop)]
 pub struct Chains {
     nodes: [Node; 1088],

@@ -1,4 +1,4 @@
-// A set of small numbers in one word.
+// A set of small numbers in one word. Casts lose nothing, which is proved; `TryFrom` would add a case that cannot come.
 ghost use Rattle.std.specs.Prelude.{◌≡◌, ℕ, ◌<◌, false, not, ◌&&◌, ◌||◌, ◌==◌};
 ghost use Rattle.buckets.specs.Sets.{member};
 ghost use Rattle.buckets.specs.Firsts.{next_from};
@@ -37,6 +37,7 @@ impl SmallSet {
         requires { at < 64 }
         ensures { result ≡ next_from (member self.now) 64 at }
     {
+        // Three cases by `if`: each counts another word's zeros.
         let high = self.word >> at;
         if high != 0 {
             Some(at + high.trailing_zeros() as u8)

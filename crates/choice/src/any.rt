@@ -35,6 +35,7 @@ impl<K: Kind> CandidateList<K> for AnyList<K::Label, K::Grade> {
 
     ghost picked = { picked_by any_model (any_order K.Kind) };
 
+    // The record of the kind's members is spelt out, since an impl over a bound has no name for it.
     ghost lawful = { let k : Ghosts K K.Label K.Grade = record { start = K.start; carry = K.carry; at_least = K.at_least; rank = K.rank } in
         lawful-by any_model (any_order k) (AnySound k K.lawful) (any_laws k K.lawful) (sound k K.lawful) };
 

@@ -51,6 +51,7 @@ impl<L, G> Holding<L, G> {
         let choice = match asked {
             Ok(choice) => choice,
             Err(NotChosen::Refused(fault)) => return Ok(Answer::Refused(fault.told())),
+            // A trouble is the command's own error, and a refusal its answer.
             Err(NotChosen::Troubled(trouble)) => return Err(trouble),
         };
         match make::<K>(choice) {

@@ -35,9 +35,11 @@ same-margin x y e =
     same-made Bounds bounds-once (λ z p. record { decibels = z; least = p.0; most = p.1 }) x.decibels y.decibels (x.least, x.most) (y.least, y.most) e
 
 -- a value is what is made of its number
+-- (nothing cites it today)
 pub airtime_of-micros : (x : Airtime) → airtime_of x.micros ≡ x
 airtime_of-micros x = same-airtime _ _ (omega (arith, x.fits))
 
+-- (nothing cites it today)
 pub margin_of-decibels : (x : Margin) → margin_of x.decibels ≡ x
 margin_of-decibels x = same-margin _ _ (cut x.decibels x.least x.most)
   where

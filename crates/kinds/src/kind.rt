@@ -2,6 +2,7 @@
 ghost use Rattle.std.specs.Prelude.{◌≡◌, ℕ, Bool};
 ghost use Rattle.kinds.specs.Laws.{Laws};
 
+// The impls have one shape and share no rule: each states its members of its own definitions, and proves its laws.
 // A kind of grade. A grade says how good a link is, and a label how good the way is by which a station was reached.
 pub trait Kind {
     type Label: Copy;

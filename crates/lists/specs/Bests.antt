@@ -18,6 +18,7 @@ module _ {K L G : Type 0} (k : Ghosts K L G) (ls : List L) (best : Option L) (li
   best-stops none = ap (best_on k ls best) next-is ∙ ap (option_and_then (λ a. best_on k ls (Some (better_of k best a)) (drop (i + 1) line))) none
 
   -- one that was is counted in
+  -- (nothing cites it today)
   pub best-more : (a : L) → slice_get ls x ≡ Some a → best_on k ls best (drop i line) ≡ best_on k ls (Some (better_of k best a)) (drop (i + 1) line)
   best-more a some = ap (best_on k ls best) next-is ∙ ap (option_and_then (λ b. best_on k ls (Some (better_of k best b)) (drop (i + 1) line))) some
 

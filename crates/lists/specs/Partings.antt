@@ -86,6 +86,7 @@ module _ (line : List ℕ) (i : ℕ) (within : i < length line) where
       pub out-of-moved : proper line ≡ true → (x < 1024) × (holds (filter p (take i line)) x ≡ false)
       out-of-moved ok = ((below-is ok).0, holds_kept p (take i line) x ∙ and_left _ _ (below-is ok).1)
 
+      -- (nothing cites it today)
       pub out-of-rest : proper line ≡ true → (x < 1024) × (holds (rest_of queue) x ≡ false)
       out-of-rest ok = (
         (below-is ok).0,

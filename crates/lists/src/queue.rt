@@ -6,7 +6,7 @@ ghost use Rattle.lists.specs.Stations.{holds, proper};
 use crate::station::Station;
 
 // The stations from the top, at place `top`, to the bottom, `len` of them; `held` tells of each station whether it is in the queue.
-// The ring is its own: `VecDeque` and `HeapCircularBuffer` lie on the heap, where a list may fail for want of memory, and `ArrayVec` moves every item at a pick.
+// The ring is its own: `VecDeque` and `HeapCircularBuffer` lie on the heap, where a list may fail for want of memory, and `ArrayVec` moves every item at a pick. `held` is an array for the same.
 // It has no `Model`, which would hide `once`, and the laws of the lists rest on that.
 #[derive(Drop)]
 pub struct Queue {

@@ -103,6 +103,7 @@ pub at-end : {P : Type 0} (t : Table) (m : List Bool) (way : List ℕ) (i a : �
 at-end t m way i a done known = Decides-at _ _ (rw (drop_all i way done)) known
 
 -- one step on, at a station without a mark, decides the same
+-- (nothing cites it today; the record of the move names it)
 pub go_on : {P : Type 0} (t : Table) (m : List Bool) (way : List ℕ) (i a : ℕ) → Decides (onward t m a (drop i way)) P
     → i < length way → (v : ℕ) → Some v ≡ head_of t (get_or way i 0) → true ≡ eqb (tail_at t (get_or way i 0)) a → get_or m v false ≡ false
     → Decides (onward t (set m v true) v (drop (i + 1) way)) P

@@ -31,9 +31,11 @@ module _ {T : Type 0} (reads : List ℕ → Option T) (bounds : Bounds) (ws : Li
   read_none h e = rw (drop_more ws i [] h, ← e)
 
 -- a word behind a reference
+-- (nothing cites it today; the record of the move names it)
 pub word_at : (refs : List (Bor (List ℕ))) (d : Bor (List ℕ)) (to i : ℕ) → i < to → (get_or refs i d).now ≡ get_or (take to (word_bytes refs)) i d.now
 word_at refs d to i h = sym (get_or-take to (word_bytes refs) i d.now h ∙ get_or-map (λ x. x.now) refs i d)
 
+-- (nothing cites it today; the record of the move names it)
 pub words_long : (refs : List (Bor (List ℕ))) (to : ℕ) → to ≤ length refs → length (take to (word_bytes refs)) ≡ to
 words_long refs to h = simp (length-take, length-map) (omega arith)
 

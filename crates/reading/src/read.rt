@@ -1,4 +1,4 @@
-// Reading values from words.
+// Reading values from words. Casts lose nothing, which is proved; `TryFrom` would add a case that cannot come.
 ghost use Rattle.std.specs.Prelude.{◌≡◌, ℕ, ◌+◌, List, [], drop, vec_items, Option, slice_index_or};
 ghost use Rattle.answers.specs.declared.trouble.Bounds.{Bounds};
 ghost use Rattle.reading.specs.Spelling.{short_read, long_read, airtime_read, chance_reading, margin_read};

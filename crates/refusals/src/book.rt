@@ -32,6 +32,7 @@ pub enum BookFault {
 impl Fault for BookFault {
     ghost tells = { book_tells };
 
+    // The numbers are those of the table of refusals, a line for each case.
     fn told(&self) -> Told {
         let (number, place) = match self {
             BookFault::Grades => (5, 0),

@@ -25,6 +25,7 @@ pub enum CheckFault {
 impl Fault for CheckFault {
     ghost tells = { check_tells };
 
+    // The numbers are those of the table of refusals, a line for each case.
     fn told(&self) -> Told {
         let (number, place) = match self {
             CheckFault::Grades => (5, 0),

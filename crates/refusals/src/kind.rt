@@ -13,6 +13,7 @@ pub enum KindFault {
 impl Fault for KindFault {
     ghost tells = { kind_tells };
 
+    // The numbers are those of the table of refusals, a line for each case.
     fn told(&self) -> Told {
         let number = match self {
             KindFault::Chance => 13,

@@ -15,6 +15,7 @@ pub enum ListFault {
 impl Fault for ListFault {
     ghost tells = { list_tells };
 
+    // The numbers are those of the table of refusals, a line for each case.
     fn told(&self) -> Told {
         let number = match self {
             ListFault::Station => 14,

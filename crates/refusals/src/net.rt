@@ -19,6 +19,7 @@ pub enum NetFault {
 impl Fault for NetFault {
     ghost tells = { net_tells };
 
+    // The numbers are those of the table of refusals, a line for each case.
     fn told(&self) -> Told {
         let (number, place) = match self {
             NetFault::Stations => (1, 0),

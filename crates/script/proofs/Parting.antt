@@ -48,6 +48,7 @@ abbrev pub under : List ℕ → ℕ → ℕ → List ℕ
 under line from i = take (i - from) (drop from line)
 
 -- they are one more with the byte at the end
+-- (nothing cites it today; the record of the move names it)
 pub under_more : (line : List ℕ) (from i : ℕ) → from ≤ i → i < length line → under line from (i + 1) ≡ under line from i ++ get_or line i 0 ∷ []
 under_more line from i h l =
     let e : i + 1 - from ≡ i - from + 1 = omega arith in
@@ -56,6 +57,7 @@ under_more line from i h l =
     ap (λ n. take n (drop from line)) e ∙ take_more (drop from line) (i - from) 0 k
     ∙ ap (λ b. under line from i ++ b ∷ []) (get_or-drop from line (i - from) 0 ∙ ap (λ n. get_or line n 0) d)
 
+-- (nothing cites it today; the record of the move names it)
 pub ended_some : (w : List ℕ) → 0 < length w → ended w [] ≡ w ∷ []
 ended_some [] h = absurd (omega arith)
 ended_some (b ∷ bs) h = refl

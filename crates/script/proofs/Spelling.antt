@@ -23,15 +23,18 @@ at-large most v w i here h =
     let f : nat_le (fold tens (tens v (get_or w i 0)) (drop (i + 1) w)) most ≡ false = lt-leb _ _ (omega arith) in
     rw (drop_more w i 0 here, f, and_right (digit (get_or w i 0) && digits (drop (i + 1) w)) false refl)
 
+-- (nothing cites it today; the record of the move names it)
 pub from_all : (most v : ℕ) → v ≤ most → number_from most v [] ≡ Some v
 from_all most v h = rw (le-leb v most h)
 
 -- a word that is not empty is read from its first digit on
+-- (nothing cites it today; the record of the move names it)
 pub from_first : (most : ℕ) (w : List ℕ) → 0 < length w → number_of most w ≡ number_from most 0 w
 from_first most [] h = absurd (omega arith)
 from_first most (b ∷ bs) h = refl
 
 -- a number that was spelled is no larger than it may be
+-- (nothing cites it today; the record of the move names it)
 pub number_small : (most : ℕ) (w : List ℕ) (n : ℕ) → Some n ≡ number_of most w → n ≤ most
 number_small most w n e =
     elim (cases_Bool (spelled w && nat_le (value_of w) most)) [

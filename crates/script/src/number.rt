@@ -1,4 +1,4 @@
-// The numbers that words spell.
+// The numbers that words spell. Casts lose nothing, which is proved; `TryFrom` would add a case that cannot come.
 ghost use Rattle.std.specs.Prelude.{◌≡◌};
 ghost use Rattle.script.specs.Numbers.{number_of, decibels_of};
 

@@ -13,11 +13,13 @@ use Rattle.site.specs.Model.{Model}
 use Rattle.site.specs.Commands.{Commanded, Obeys, comment, as_line}
 
 -- the first of some words, behind a reference
+-- (nothing cites it today; the record of the move names it)
 first_word : (words : List (Bor (List ℕ))) (d : Bor (List ℕ)) → d.now ≡ [] → get_or (word_bytes words) 0 [] ≡ (get_or words 0 d).now
 first_word words d z = ap (get_or (word_bytes words) 0) (sym z) ∙ get_or-map (λ x. x.now) words 0 d
 
 -- A line, by its words.
 module _ (o : Option Model) where
+  -- (nothing cites it today; the record of the move names it)
   passed_over : (ws : List (List ℕ)) → 0 < length ws → comment (get_or ws 0 []) ≡ true → Obeys o ws (Ok None) o
   passed_over [] h e = absurd (omega arith)
   passed_over (w ∷ ws) h e = rw e (refl, refl)

@@ -15,7 +15,7 @@ use refusals::told::Fault;
 use script::words::words;
 use std::alloc::{AllocError, Global};
 
-// Where a script is carried out, line by line: the site that it works on, once a net was accepted.
+// Where a script is carried out, line by line: the site that it works on, once a net was accepted. It has no `Model`, as the site has none.
 #[derive(Drop)]
 pub struct Desk {
     site: Option<Site>,

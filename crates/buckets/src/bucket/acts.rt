@@ -1,4 +1,4 @@
-// What the bucket list does.
+// What the bucket list does. Casts lose nothing, which is proved; `TryFrom` would add a case that cannot come.
 ghost use Rattle.std.specs.Prelude.{◌≡◌, ◌<◌, true, false, length, MatchResult};
 ghost use Rattle.std.specs.List.{slice_get};
 ghost use Rattle.refusals.specs.declared.list.ListFault.TheVariants.{Buckets};

@@ -1,4 +1,4 @@
-// What chains do. Indices are cast: `usize::from` at each is no plainer, and a step more in every proof.
+// What chains do. Casts lose nothing, which is proved, and indices are cast: `usize::from` at each is no plainer, and a step more in every proof.
 ghost use Rattle.std.specs.Prelude.{◌≡◌, ℕ, ◌+◌, ◌<◌, true, false, [], ◌∷◌, ◌++◌, length, if◌then◌else◌, nat_eq, option_map, slice_index};
 ghost use Rattle.lists.specs.Meaning.{count_below};
 ghost use Rattle.lists.specs.Stations.{top_of};
@@ -47,7 +47,7 @@ impl Chains {
         self.home[station.index() as usize]
     }
 
-    // The oldest station of the chain b.
+    // The oldest station of the chain b. Its bound is asked, as in `SmallSet`.
     pub(crate) fn first(&self, b: u8) -> Option<Station>
         requires { b < 64 }
         ensures { option_map (λ s. s.index) result ≡ top_of (row self.now b) }

@@ -10,7 +10,7 @@ use crate::kind::Kind;
 use std::fmt;
 
 impl Airtime {
-    // So many microseconds. No `From`, as the number is not a chance's nor a margin's: the name says what it counts.
+    // So many microseconds. No `From`: the name says what the number counts.
     pub fn new(micros: u32) -> Airtime
         ensures made { result ≡ airtime_of micros }
         ensures holds { result.micros ≡ micros }

@@ -64,6 +64,7 @@ impl Kind for ByChance {
     }
 
     fn carry(label: Chance, grade: Chance) -> Chance {
+        // The cast loses nothing, which is proved; `TryFrom` would add a case that cannot come.
         Chance {
             parts: (u64::from(label.parts) * u64::from(grade.parts) / 65536) as u32,
         }

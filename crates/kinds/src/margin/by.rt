@@ -11,7 +11,7 @@ use crate::kind::Kind;
 use std::fmt;
 
 impl Margin {
-    // So many decibels.
+    // So many decibels. No `From`, as for the airtime: the name says what the number counts.
     pub fn new(decibels: i8) -> Margin
         ensures made { result ≡ margin_of decibels }
         ensures holds { result.decibels ≡ decibels }
@@ -59,6 +59,7 @@ impl Kind for ByMargin {
     }
 
     fn rank(label: Margin) -> u32 {
+        // The cast loses nothing, which is proved; `TryFrom` would add a case that cannot come.
         (127 - i32::from(label.decibels)) as u32
     }
 }

@@ -44,6 +44,7 @@ impl Queue {
     pub(crate) fn top(&self) -> Option<Station>
         ensures { option_map (λ s. s.index) result ≡ top_of (line_of self.now) }
     {
+        // An `if`: a closure for `then` would have to state that the queue's facts hold.
         if self.len == 0 {
             return None;
         }

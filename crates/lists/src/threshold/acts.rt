@@ -113,6 +113,7 @@ impl<K: Kind> CandidateList<K> for Threshold<K::Label, K::Grade> {
 
     ghost picked = { picked_by queues_of (threshold K.Kind) };
 
+    // The record of the kind's members is spelt out, since an impl over a bound has no name for it.
     ghost lawful = { let k : Ghosts K K.Label K.Grade = record { start = K.start; carry = K.carry; at_least = K.at_least; rank = K.rank } in
         lawful-by queues_of (threshold k) (Sound k) (threshold-laws k K.lawful)
         (λ s. record { first-once = s.first.once; second-once = s.second.once; separate = s.apart }) };

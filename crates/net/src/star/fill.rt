@@ -1,4 +1,4 @@
-// Filling a net: which lists are one, and which refusal the others meet.
+// Filling a net: which lists are one, and which refusal the others meet. Casts lose nothing, which is proved; `TryFrom` would add a case that cannot come.
 ghost use Rattle.std.specs.Prelude.{◌≡◌, ◌-◌, ◌≤◌, length, is_some, MatchResult};
 ghost use Rattle.net.specs.First.{first_below};
 ghost use Rattle.net.specs.Table.{table, ForwardStar};
@@ -46,6 +46,7 @@ fn tested(starts: &[u16], heads: &[u16]) -> Result<(), NetFault>
     if off_course(starts, heads.len()) {
         return Err(NetFault::Starts);
     }
+    // A `match`: `map_or` with two results is no plainer.
     match first_stray(starts.len() - 1, heads) {
         Some(link) => Err(NetFault::Head(link)),
         None => Ok(()),

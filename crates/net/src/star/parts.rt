@@ -1,4 +1,4 @@
-// What a net has: stations, links, heads, and the links of a station.
+// What a net has: stations, links, heads, and the links of a station. Casts lose nothing, which is proved; `TryFrom` would add a case that cannot come.
 ghost use Rattle.std.specs.Prelude.{◌≡◌, ◌+◌, ◌≤◌, [], ◌∷◌, MatchOption};
 ghost use Rattle.net.specs.Table.{station_count, link_count, first_link, head_of};
 ghost use Rattle.net.specs.View.{table_of};

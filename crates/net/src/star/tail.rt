@@ -1,4 +1,4 @@
-// The tail of a link.
+// The tail of a link. Casts lose nothing, which is proved; `TryFrom` would add a case that cannot come.
 ghost use Rattle.std.specs.Prelude.{◌≡◌, ◌<◌, ◌≤◌, MatchOption};
 ghost use Rattle.net.specs.Table.{link_count, tail_at, tail_of, Leaves};
 ghost use Rattle.net.specs.View.{table_of};

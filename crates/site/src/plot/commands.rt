@@ -65,6 +65,7 @@ impl Site {
 fn graded(net: &Net, grades: &Grades, way: &[u16]) -> Result<Answer, Trouble>
     ensures { Graded (table_of net.now) (grades_in grades.now) way.now result }
 {
+    // An arm for each kind, as for all that is done with grades.
     match grades {
         Grades::ByAirtime(list) => propose::<ByAirtime>(net, list.as_slice(), way).map(
             Label::Airtime,
