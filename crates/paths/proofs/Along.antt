@@ -1,11 +1,11 @@
 -- Going along a list of links: where it breaks off, and that it is a path where it does not.
-use Rattle.std.proofs.Common.{◌≡◌, ℕ, ◌+◌, ◌<◌, ◌≤◌, List, [], ◌∷◌, length, get_or, drop, Some, None, fold, refl, ap, ◌∙◌, subst, inl, inr}
+use Rattle.std.proofs.Common.{◌≡◌, ℕ, ◌+◌, ◌<◌, ◌≤◌, true, eqb, List, [], ◌∷◌, length, get_or, drop, Some, None, fold, refl, ap, ◌∙◌, subst, inl, inr}
 use Rattle.std.proofs.lemmas.List.{drop_more, drop_all}
 use Rattle.std.proofs.lemmas.Option.{slice_get_read}
 use Rattle.kinds.specs.declared.kind.Kind.{Ghosts}
 use Rattle.std.proofs.lemmas.Bool.{cases_lt, cases_eq, lt-ltb, le-ltb, eq-eqb, ne_eqb}
 use Rattle.net.specs.Table.{Table, ForwardStar, station_count, link_count, head_at, head_of, tail_at}
-use Rattle.net.proofs.Heads.{head-missing}
+use Rattle.net.proofs.Heads.{head-found, head-missing}
 use Rattle.net.proofs.Tails.{lands, tail-leaves}
 use Rattle.paths.specs.declared.grade.NotPath.{NotPath}
 use Rattle.paths.specs.declared.grade.NotPath.TheVariants.{NoLink}
@@ -58,6 +58,13 @@ pub breaks-no-link : (t : Table) (from : ℕ) (way : List ℕ) (i a : ℕ) → i
     → breaks t 0 from way ≡ breaks t i a (drop i way) → None ≡ head_of t (get_or way i 0) → breaks t 0 from way ≡ Some (NoLink i)
 breaks-no-link t from way i a here known e =
     known ∙ rw (drop_more way i 0 here, le-ltb (get_or way i 0) (link_count t) (head-missing t (get_or way i 0) e))
+
+-- it leaves the station come to: the way goes on from its head
+pub breaks-on : (t : Table) (from : ℕ) (way : List ℕ) (i a : ℕ) → i < length way → breaks t 0 from way ≡ breaks t i a (drop i way)
+    → (v : ℕ) → Some v ≡ head_of t (get_or way i 0) → true ≡ eqb (tail_at t (get_or way i 0)) a → breaks t 0 from way ≡ breaks t (i + 1) v (drop (i + 1) way)
+breaks-on t from way i a here known v e f =
+    let (link, is) = head-found t (get_or way i 0) v e in
+    known ∙ rw (drop_more way i 0 here, lt-ltb (get_or way i 0) (link_count t) link, ← f, is)
 
 -- at the end it has broken off nowhere
 pub breaks-end : (t : Table) (from : ℕ) (way : List ℕ) (i a : ℕ) → length way ≤ i

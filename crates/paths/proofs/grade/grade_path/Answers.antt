@@ -6,7 +6,7 @@ use Rattle.net.proofs.Heads.{head-found}
 use Rattle.net.proofs.Tails.{star_of}
 use Rattle.paths.specs.Answer.{not_path}
 use Rattle.paths.specs.declared.grade.NotPath.TheVariants.{NoStation, Parted}
-use Rattle.paths.proofs.Along.{unbroken-path, refused-no-path, refused-broken, breaks-no-link, breaks-end, grade-on}
+use Rattle.paths.proofs.Along.{unbroken-path, refused-no-path, refused-broken, breaks-no-link, breaks-on, breaks-end, grade-on}
 use Rattle.paths.proofs.grade.grade_path.Goals as goal
 
 pub returns-then-from-stations-clause-path : goal.returns-then-from-stations-clause-path
@@ -36,7 +36,7 @@ loop-i-preserved g c =
     let link = (head-found (table_of c.args.net.now) _ _ head).0 in
     let label = grade-on g.K.Kind c.args.grades.now way l.i l.label c.carry-label.result c.index-grades-link.result
     (omega arith) (omega arith) c.index-grades-link.is c.carry-label.ensures l.invariant.1 in
-    (grind (arith, common_steps), label)
+    (breaks-on (table_of c.args.net.now) c.args.from way l.i l.at (omega arith) l.invariant.0 _ head c.if-not-leaves.ensures, label)
 
 pub returns-clause-path : goal.returns-clause-path
 returns-clause-path g c =
