@@ -15,9 +15,22 @@ pub struct Refusal {
 pub enum Why {
     UnknownCommand,
     NoNet,
-    NotANumber { place: usize, low: i64, high: i64 },
+    NotANumber {
+        place: usize,
+        low: i64,
+        high: i64,
+    },
     NoSlash,
     NoKind,
+    ListShape,
+    EnterShape,
+    PickShape,
+    PokeShape,
+    /// The named command stands alone on its line.
+    NoWords(&'static str),
+    NoLabel {
+        labels: usize,
+    },
     NotAPath(Gap),
     OutOfMemory,
 }
@@ -74,6 +87,15 @@ impl fmt::Display for Why {
             }
             Why::NoSlash => write!(f, "net needs one / between starts and heads"),
             Why::NoKind => write!(f, "kind takes one of airtime, chance, margin"),
+            Why::ListShape => write!(
+                f,
+                "list takes first-in, two-ended, small-label, threshold <step> or bucket <width> <span>"
+            ),
+            Why::EnterShape => write!(f, "enter takes <station> [handed]"),
+            Why::PickShape => write!(f, "pick takes [handed]"),
+            Why::PokeShape => write!(f, "poke takes label <index> <value>"),
+            Why::NoWords(command) => write!(f, "{command} takes no words"),
+            Why::NoLabel { labels } => write!(f, "there are {labels} labels"),
             Why::NotAPath(gap) => write!(f, "not a path: {gap}"),
             Why::OutOfMemory => write!(f, "out of memory"),
         }

@@ -1,6 +1,8 @@
 //! The kinds of grade. Grades and labels of every kind are plain i64, wide enough for all sums
 //! and products below.
 
+use crate::faults::Refusal;
+
 const AIRTIME_CAP: i64 = 4_294_967_295;
 const CHANCE_ONE: i64 = 65_536;
 const MARGIN_LOW: i64 = -128;
@@ -47,6 +49,19 @@ impl Kind {
         }
     }
 
+    /// The grade that a single number of that range makes.
+    pub fn make(self, number: i64) -> Result<i64, Refusal> {
+        if self.read(number) == number {
+            Ok(number)
+        } else {
+            Err(Refusal {
+                number: 13,
+                place: 0,
+                layer: "kind",
+            })
+        }
+    }
+
     /// The start label.
     pub fn start(self) -> i64 {
         match self {
@@ -62,6 +77,23 @@ impl Kind {
             Kind::Airtime => (label + grade).min(AIRTIME_CAP),
             Kind::Chance => label * grade / CHANCE_ONE,
             Kind::Margin => label.min(grade),
+        }
+    }
+
+    /// Whether a label is better than another or equal to it.
+    pub fn at_least_as_good(self, label: i64, other: i64) -> bool {
+        match self {
+            Kind::Airtime => label <= other,
+            Kind::Chance | Kind::Margin => label >= other,
+        }
+    }
+
+    /// How far a label is from the best one; it fits 32 bits.
+    pub fn rank(self, label: i64) -> i64 {
+        match self {
+            Kind::Airtime => label,
+            Kind::Chance => CHANCE_ONE - label,
+            Kind::Margin => MARGIN_HIGH - label,
         }
     }
 }
@@ -104,6 +136,44 @@ mod tests {
         assert_eq!(Kind::Chance.read(4_294_967_295), 65_536);
         assert_eq!(Kind::Chance.read(65_535), 65_535);
         assert_eq!(Kind::Airtime.read(65_537), 65_537);
+    }
+
+    #[test]
+    fn a_larger_chance_is_not_made() {
+        let refusal = Refusal {
+            number: 13,
+            place: 0,
+            layer: "kind",
+        };
+        assert_eq!(Kind::Chance.make(65_536), Ok(65_536));
+        assert_eq!(Kind::Chance.make(65_537), Err(refusal));
+        assert_eq!(Kind::Airtime.make(4_294_967_295), Ok(4_294_967_295));
+        assert_eq!(Kind::Margin.make(-128), Ok(-128));
+    }
+
+    #[test]
+    fn less_airtime_more_chance_and_more_margin_are_better() {
+        for (kind, better, worse) in [
+            (Kind::Airtime, 3, 4),
+            (Kind::Chance, 4, 3),
+            (Kind::Margin, 4, -3),
+        ] {
+            assert!(kind.at_least_as_good(better, worse));
+            assert!(kind.at_least_as_good(worse, worse));
+            assert!(!kind.at_least_as_good(worse, better));
+        }
+    }
+
+    #[test]
+    fn ranks_count_from_the_best_label() {
+        for (kind, worst, rank) in [
+            (Kind::Airtime, AIRTIME_CAP, 4_294_967_295),
+            (Kind::Chance, 0, 65_536),
+            (Kind::Margin, MARGIN_LOW, 255),
+        ] {
+            assert_eq!(kind.rank(kind.start()), 0);
+            assert_eq!(kind.rank(worst), rank);
+        }
     }
 
     #[test]

@@ -2,7 +2,10 @@
 
 mod faults;
 mod kinds;
+mod lists;
 mod net;
+mod planner;
+mod reading;
 mod script;
 mod site;
 
@@ -14,7 +17,7 @@ use std::process::ExitCode;
 /// Carries out a whole script.
 fn run(input: impl BufRead, output: &mut impl Write) -> io::Result<()> {
     let mut lines = script::Lines::new(input);
-    let mut planner = site::Planner::default();
+    let mut planner = planner::Planner::default();
     while let Some(line) = lines.read()? {
         if let Some(answer) = planner.answer(&line) {
             writeln!(output, "{answer}")?;

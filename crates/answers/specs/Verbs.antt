@@ -3,20 +3,21 @@ use Rattle.std.specs.Prelude.{ℕ, if◌then◌else◌, List, Some, None, codes,
 use Rattle.std.specs.Str.{bytes_eq}
 use Rattle.answers.specs.declared.verb.Verb.{Verb}
 use Rattle.answers.specs.declared.verb.SiteVerb.{SiteVerb}
+use Rattle.answers.specs.declared.verb.HeldVerb.{HeldVerb}
 use Rattle.answers.specs.declared.verb.KindName.{KindName}
 
 abbrev pub verb_of : List ℕ → Option Verb
 verb_of w =
     if bytes_eq w (codes "net") then Some Verb.Net else
     (if bytes_eq w (codes "kind") then Some (Verb.Site SiteVerb.Kind) else
-    (if bytes_eq w (codes "grades") then Some (Verb.Site SiteVerb.Grades) else
-    (if bytes_eq w (codes "list") then Some (Verb.Site SiteVerb.List) else
+    (if bytes_eq w (codes "grades") then Some (Verb.Site (SiteVerb.Held HeldVerb.Grades)) else
+    (if bytes_eq w (codes "list") then Some (Verb.Site (SiteVerb.Held HeldVerb.List)) else
     (if bytes_eq w (codes "path") then Some (Verb.Site SiteVerb.Path) else
-    (if bytes_eq w (codes "poke") then Some (Verb.Site SiteVerb.Poke) else
-    (if bytes_eq w (codes "enter") then Some (Verb.Site SiteVerb.Enter) else
-    (if bytes_eq w (codes "pick") then Some (Verb.Site SiteVerb.Pick) else
-    (if bytes_eq w (codes "empty") then Some (Verb.Site SiteVerb.Empty) else
-    (if bytes_eq w (codes "waiting") then Some (Verb.Site SiteVerb.Waiting) else None)))))))))
+    (if bytes_eq w (codes "poke") then Some (Verb.Site (SiteVerb.Held HeldVerb.Poke)) else
+    (if bytes_eq w (codes "enter") then Some (Verb.Site (SiteVerb.Held HeldVerb.Enter)) else
+    (if bytes_eq w (codes "pick") then Some (Verb.Site (SiteVerb.Held HeldVerb.Pick)) else
+    (if bytes_eq w (codes "empty") then Some (Verb.Site (SiteVerb.Held HeldVerb.Empty)) else
+    (if bytes_eq w (codes "waiting") then Some (Verb.Site (SiteVerb.Held HeldVerb.Waiting)) else None)))))))))
 
 abbrev pub kind_named : List ℕ → Option KindName
 kind_named w =

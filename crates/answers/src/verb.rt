@@ -21,9 +21,16 @@ pub enum Verb {
 #[derive(Clone, Copy, Debug, PartialEq, Eq)]
 pub enum SiteVerb {
     Kind,
+    Path,
+    // Something of what the site holds beside its net.
+    Held(HeldVerb),
+}
+
+// What is asked of the grades, the labels and the candidate list of a site alone.
+#[derive(Clone, Copy, Debug, PartialEq, Eq)]
+pub enum HeldVerb {
     Grades,
     List,
-    Path,
     Poke,
     Enter,
     Pick,
@@ -48,14 +55,14 @@ impl TryFrom<&[u8]> for Verb {
         match word {
             b"net" => Ok(Verb::Net),
             b"kind" => Ok(Verb::Site(SiteVerb::Kind)),
-            b"grades" => Ok(Verb::Site(SiteVerb::Grades)),
-            b"list" => Ok(Verb::Site(SiteVerb::List)),
+            b"grades" => Ok(Verb::Site(SiteVerb::Held(HeldVerb::Grades))),
+            b"list" => Ok(Verb::Site(SiteVerb::Held(HeldVerb::List))),
             b"path" => Ok(Verb::Site(SiteVerb::Path)),
-            b"poke" => Ok(Verb::Site(SiteVerb::Poke)),
-            b"enter" => Ok(Verb::Site(SiteVerb::Enter)),
-            b"pick" => Ok(Verb::Site(SiteVerb::Pick)),
-            b"empty" => Ok(Verb::Site(SiteVerb::Empty)),
-            b"waiting" => Ok(Verb::Site(SiteVerb::Waiting)),
+            b"poke" => Ok(Verb::Site(SiteVerb::Held(HeldVerb::Poke))),
+            b"enter" => Ok(Verb::Site(SiteVerb::Held(HeldVerb::Enter))),
+            b"pick" => Ok(Verb::Site(SiteVerb::Held(HeldVerb::Pick))),
+            b"empty" => Ok(Verb::Site(SiteVerb::Held(HeldVerb::Empty))),
+            b"waiting" => Ok(Verb::Site(SiteVerb::Held(HeldVerb::Waiting))),
             _ => Err(Trouble::Unknown),
         }
     }

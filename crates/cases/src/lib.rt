@@ -9,7 +9,7 @@ pub fn worked_cases() -> u16
     ensures count { result ≡ length worked }
     ensures stand { AllStand worked }
 {
-    7
+    16
 }
 
 #[cfg(test)]

@@ -1,5 +1,8 @@
-// The worked cases on the code itself, and the refusals of a net with their places.
+// The worked cases on the code itself, and the refusals of a net and of lists with their places.
 use super::worked_cases;
+use choice::any::AnyList;
+use choice::list_name::ListName;
+use choice::make::{Choice, choice_of, make};
 use kinds::airtime::Airtime;
 use kinds::airtime::by::ByAirtime;
 use kinds::chance::Chance;
@@ -7,6 +10,7 @@ use kinds::chance::by::ByChance;
 use kinds::kind::Kind;
 use kinds::margin::Margin;
 use kinds::margin::by::ByMargin;
+use lists::list::{CandidateList, Entered};
 use net::star::Net;
 use paths::grade::grade_path;
 use paths::simple::is_simple;
@@ -15,6 +19,7 @@ use refusals::list::ListFault;
 use refusals::net::NetFault;
 use refusals::refusal::Refusal;
 use refusals::told::{Fault, Layer};
+use std::mem::size_of;
 use std::test::Fail;
 
 #[test]
@@ -42,7 +47,7 @@ fn kinds_carry(rt: HostRuntime) {
         ByMargin::carry(Margin::new(127), Margin::new(-128)).decibels(),
         -128
     );
-    assert_eq!(rt; worked_cases(), 7);
+    assert_eq!(rt; worked_cases(), 16);
 }
 
 #[test]
@@ -88,6 +93,98 @@ fn labels_written(rt: HostRuntime) -> Result<(), Fail> {
     let text = format!(in heap; "{time} {parts} {least}")?;
     assert_eq!(rt; text.as_str(), "4294967295 65536 -128");
     Ok(())
+}
+
+const LABELS: [u32; 4] = [0, 5, 3, 9];
+
+// Stations enter the list of this number, with labels for four; what five picks answer then.
+fn leave(number: u8, stations: [u16; 4]) -> Result<[Option<u16>; 5], Fail> {
+    let labels = LABELS.map(Airtime::new);
+    let name = ListName::try_from(number)?;
+    let mut list = make::<ByAirtime>(choice_of(name, Airtime::new(2), 2, 5))?;
+    for station in stations {
+        let _ = list.enter(station, &labels)?;
+    }
+    let mut picked = [None; 5];
+    for station in &mut picked {
+        *station = list.pick(&labels);
+    }
+    Ok(picked)
+}
+
+#[test]
+fn lists_in_order(rt: HostRuntime) -> Result<(), Fail> {
+    let known = [1, 2, 3, 0];
+    let partly = [1, 3, 4, 2];
+    assert_eq!(rt;
+        leave(0, known)?,
+        [Some(1), Some(2), Some(3), Some(0), None]
+    );
+    assert_eq!(rt;
+        leave(2, known)?,
+        [Some(0), Some(2), Some(1), Some(3), None]
+    );
+    assert_eq!(rt;
+        leave(2, partly)?,
+        [Some(2), Some(1), Some(3), Some(4), None]
+    );
+    assert_eq!(rt;
+        leave(3, known)?,
+        [Some(0), Some(1), Some(2), Some(3), None]
+    );
+    assert_eq!(rt;
+        leave(3, partly)?,
+        [Some(4), Some(1), Some(2), Some(3), None]
+    );
+    assert_eq!(rt;
+        leave(4, known)?,
+        [Some(0), Some(2), Some(3), Some(1), None]
+    );
+    assert_eq!(rt;
+        leave(4, partly)?,
+        [Some(4), Some(3), Some(2), Some(1), None]
+    );
+    Ok(())
+}
+
+#[test]
+fn back_on_top(rt: HostRuntime) -> Result<(), Fail> {
+    let labels = LABELS.map(Airtime::new);
+    let mut list = make::<ByAirtime>(Choice::TwoEnded)?;
+    assert_eq!(rt; list.enter(1, &labels)?, Entered::New);
+    assert_eq!(rt; list.enter(2, &labels)?, Entered::New);
+    assert_eq!(rt; list.pick(&labels), Some(1));
+    assert_eq!(rt; list.enter(3, &labels)?, Entered::New);
+    assert_eq!(rt; list.enter(1, &labels)?, Entered::New);
+    assert_eq!(rt; list.enter(2, &labels)?, Entered::Waiting);
+    for station in [1, 2, 3] {
+        assert_eq!(rt; list.pick(&labels), Some(station));
+    }
+    Ok(())
+}
+
+#[test]
+fn lists_refuse(rt: HostRuntime) -> Result<(), Fail> {
+    assert!(rt; ListName::try_from(5).is_err());
+    assert_eq!(rt;
+        make::<ByAirtime>(Choice::Bucket(2, 128)).err(),
+        Some(ListFault::Buckets)
+    );
+    let mut list = make::<ByAirtime>(Choice::Bucket(2, 126))?;
+    assert_eq!(rt; list.enter(1023, &[])?, Entered::New);
+    assert_eq!(rt; list.enter(1024, &[]), Err(ListFault::Station));
+    assert_eq!(rt; list.waiting(), 1);
+    list.empty();
+    assert_eq!(rt; list.pick(&[]), None);
+    Ok(())
+}
+
+// Any of the five lists takes at most 16 KiB, with the labels and grades of each kind.
+#[test]
+fn lists_are_small(rt: HostRuntime) {
+    assert!(rt; size_of::<AnyList<ByAirtime>>() <= 16384);
+    assert!(rt; size_of::<AnyList<ByChance>>() <= 16384);
+    assert!(rt; size_of::<AnyList<ByMargin>>() <= 16384);
 }
 
 fn enters() -> Result<(), ListFault> {

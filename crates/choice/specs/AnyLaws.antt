@@ -21,7 +21,7 @@ module _ {K L G : Type 0} (k : Ghosts K L G) (laws : Laws k.carry k.at_least k.r
   AnySound (of_threshold m) = Sound k m
   AnySound (of_bucket m) = SoundRing m
 
-  pub sound : (s : AnyList L G) → AnySound (any_model s)
+  pub sound : (s : AnyList K L G k) → AnySound (any_model s)
   sound (any.FirstIn s) = s.queue.once
   sound (any.TwoEnded s) = s.queue.once
   sound (any.SmallLabel s) = s.queue.once

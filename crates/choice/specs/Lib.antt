@@ -2,4 +2,5 @@ pub mod Names
 pub mod AnyOrder
 pub mod AnyModels
 pub mod Choices
+pub mod Leaving
 pub mod AnyLaws

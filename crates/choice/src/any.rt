@@ -18,15 +18,15 @@ use refusals::list::ListFault;
 // One of the lists, held by value; it is a candidate list itself, in the order of the list that it is.
 // It is an enum, and no `dyn CandidateList` in a box: a list lies in fixed memory, and not on the heap.
 #[derive(Drop)]
-pub enum AnyList<L, G> {
+pub enum AnyList<K: Kind> {
     FirstIn(FirstIn),
     TwoEnded(TwoEnded),
     SmallLabel(SmallLabel),
-    Threshold(Threshold<L, G>),
+    Threshold(Threshold<K>),
     Bucket(Bucket),
 }
 
-impl<K: Kind> CandidateList<K> for AnyList<K::Label, K::Grade> {
+impl<K: Kind> CandidateList<K> for AnyList<K> {
     ghost waits = { waits_by any_model (any_order K.Kind) };
 
     ghost emptied = { emptied_by any_model (any_order K.Kind) };

@@ -1,6 +1,7 @@
 // Making the list that was chosen.
 ghost use Rattle.std.specs.Prelude.{◌≡◌, IfOk, Ok, Err, MatchResult};
 ghost use Rattle.choice.specs.AnyModels.{any_model};
+ghost use Rattle.choice.specs.Leaving.{Leaving};
 ghost use Rattle.choice.specs.Choices.{choice_name, choice_of, chosen, Fresh};
 
 use crate::any::AnyList;
@@ -9,7 +10,7 @@ use buckets::bucket::Bucket;
 use kinds::kind::Kind;
 use lists::first_in::FirstIn;
 use lists::small_label::SmallLabel;
-use lists::threshold::acts::new_threshold;
+use lists::threshold::Threshold;
 use lists::two_ended::TwoEnded;
 use refusals::list::ListFault;
 
@@ -53,15 +54,16 @@ impl<G> Choice<G> {
 }
 
 // The list that was chosen, without a station; buckets that cannot be had are refused.
-pub fn make<K: Kind>(choice: Choice<K::Grade>) -> Result<AnyList<K::Label, K::Grade>, ListFault>
+pub fn make<K: Kind>(choice: Choice<K::Grade>) -> Result<AnyList<K>, ListFault>
     ensures is { MatchResult result (λ list. chosen K.Kind choice ≡ Ok (any_model list)) (λ fault. chosen K.Kind choice ≡ Err fault) }
+    ensures leaving { Leaving K.Kind choice }
     ensures fresh { IfOk result (λ list. Fresh K.Kind (any_model list)) }
 {
     match choice {
         Choice::FirstIn => Ok(AnyList::FirstIn(FirstIn::new())),
         Choice::TwoEnded => Ok(AnyList::TwoEnded(TwoEnded::new())),
         Choice::SmallLabel => Ok(AnyList::SmallLabel(SmallLabel::new())),
-        Choice::Threshold(step) => Ok(AnyList::Threshold(new_threshold::<K>(step))),
+        Choice::Threshold(step) => Ok(AnyList::Threshold(Threshold::new(step))),
         Choice::Bucket(width, span) => Ok(AnyList::Bucket(Bucket::new(width, span)?)),
     }
 }

@@ -1,5 +1,5 @@
--- What the list commands come to on what a site holds, in any kind.
-use Rattle.std.specs.Prelude.{ℕ, if◌then◌else◌, List, length, take, Some, None, Ok, Err, Option, Result, ◌==◌, nat_lt, slice_set}
+-- What the commands on what a site holds come to, in any kind.
+use Rattle.std.specs.Prelude.{ℕ, if◌then◌else◌, List, [], ◌∷◌, length, take, Some, None, Ok, Err, Option, Result, nat_lt, slice_set}
 use Rattle.refusals.specs.declared.list.ListFault.{ListFault}
 use Rattle.refusals.specs.declared.list.ListFault.TheVariants.{Station}
 use Rattle.refusals.specs.Tells.{list_tells, kind_tells}
@@ -15,6 +15,8 @@ use Rattle.answers.specs.declared.trouble.Trouble.TheVariants.{Usage, NoLabel}
 use Rattle.answers.specs.declared.trouble.Usage.{Usage as Shape}
 use Rattle.answers.specs.declared.trouble.Usage.TheVariants as usage
 use Rattle.answers.specs.Outcomes.{Outcome, troubled, answered}
+use Rattle.hands.specs.declared.ask.Entering.{Entering}
+use Rattle.hands.specs.declared.ask.Poking.{Poking}
 use Rattle.hands.specs.declared.ask.NotChosen.{NotChosen}
 use Rattle.hands.specs.declared.ask.NotChosen.TheVariants.{Refused, Troubled}
 use Rattle.hands.specs.Held.{HeldBy}
@@ -30,15 +32,24 @@ with_list h m = record h { list = m }
 abbrev pub with_labels : {L G : Type 0} → HeldBy L G → List L → HeldBy L G
 with_labels h ls = record h { labels = ls }
 
+abbrev pub with_grades : {L G : Type 0} → HeldBy L G → List G → HeldBy L G
+with_grades h gs = record h { grades = gs }
+
+-- `grades`: the list that was read takes the place of the grades
+abbrev pub regraded : {L G : Type 0} → HeldBy L G → Result (List G) Trouble → Outcome (HeldBy L G)
+regraded h (Err e) = troubled e h
+regraded h (Ok gs) = answered (answer.Grades (length gs)) (with_grades h gs)
+
 -- a command that takes no words after its own
 abbrev pub bare : {M : Type 0} → Shape → List (List ℕ) → M → Outcome M → Outcome M
-bare u ws m o = if length ws == 1 then o else troubled (Usage u) m
+bare u (_ ∷ []) m o = o
+bare u _ m o = troubled (Usage u) m
 
 -- `poke label`: one label is overwritten
-abbrev pub poked : {L G : Type 0} → HeldBy L G → Result (ℕ × L) Trouble → Outcome (HeldBy L G)
+abbrev pub poked : {L G : Type 0} → HeldBy L G → Result (Poking L) Trouble → Outcome (HeldBy L G)
 poked h (Err e) = troubled e h
-poked h (Ok p) =
-    if nat_lt p.0 (length h.labels) then answered answer.Poked (with_labels h (slice_set h.labels p.0 p.1)) else troubled (NoLabel (length h.labels)) h
+poked h (Ok a) =
+    if nat_lt a.index (length h.labels) then answered answer.Poked (with_labels h (slice_set h.labels a.index a.label)) else troubled (NoLabel (length h.labels)) h
 
 module _ {K L G : Type 0} (k : Ghosts K L G) where
   -- `list`: a new list, which is empty; a step that is no grade, and buckets that cannot be had, are refused
@@ -58,9 +69,9 @@ module _ {K L G : Type 0} (k : Ghosts K L G) where
       then answered (answer.Entered (if any_waiting k h.list x then Entered.Waiting else Entered.New)) (with_list h (any_entering k h.list x ls))
       else answered (answer.Refused (list_tells Station)) h
 
-  abbrev pub entered : HeldBy L G → Result (ℕ × Option ℕ) Trouble → Outcome (HeldBy L G)
+  abbrev pub entered : HeldBy L G → Result Entering Trouble → Outcome (HeldBy L G)
   entered h (Err e) = troubled e h
-  entered h (Ok p) = enters_at h p.0 (handed_over p.1 h.labels)
+  entered h (Ok a) = enters_at h a.station (handed_over a.handed h.labels)
 
   -- `pick`
   abbrev pub picks_from : HeldBy L G → Option ℕ × AnyModel L G → Outcome (HeldBy L G)

@@ -1,20 +1,23 @@
-// Carrying out the list commands.
-ghost use Rattle.std.specs.Prelude.{◌≡◌};
-ghost use Rattle.answers.specs.Outcomes.{Does};
+// Carrying out the commands on what is held.
+ghost use Rattle.std.specs.Prelude.{◌≡◌, drop};
+ghost use Rattle.answers.specs.Outcomes.{Does, Came};
+ghost use Rattle.reading.specs.Reading.{read_all};
 ghost use Rattle.script.specs.Words.{word_bytes};
-ghost use Rattle.hands.specs.Acts.{handed_over, poked, chose, entered, picked, emptied, waited};
-ghost use Rattle.hands.specs.Asks.{enter_asked, pick_asked, poke_asked};
+ghost use Rattle.hands.specs.Acts.{handed_over, regraded, poked, chose, entered, picked, emptied, waited};
+ghost use Rattle.hands.specs.Asks.{choice_asked, enter_asked, pick_asked, poke_asked};
 ghost use Rattle.hands.specs.Held.{held_by};
 
-use crate::ask::{NotChosen, enter_asked, pick_asked, poke_asked};
+use crate::ask::{Entering, NotChosen, Poking, choice_asked, enter_asked, pick_asked, poke_asked};
 use crate::holding::Holding;
 use answers::answer::Answer;
 use answers::trouble::{Trouble, Usage};
-use choice::make::{Choice, make};
+use choice::make::make;
 use kinds::kind::Kind;
 use lists::list::CandidateList;
-use reading::read::Readable;
+use reading::read::{Readable, read_rest};
+use reading::single::Single;
 use refusals::told::Fault;
+use std::alloc::Global;
 
 // The labels that are handed over: all, or the first so many.
 fn handed_over<L>(labels: &[L], handed: Option<u16>) -> &[L]
@@ -25,12 +28,28 @@ fn handed_over<L>(labels: &[L], handed: Option<u16>) -> &[L]
         .unwrap_or(labels)
 }
 
-impl<L: Readable, G> Holding<L, G> {
+impl<K: Kind> Holding<K>
+where
+    K::Grade: Readable,
+{
+    // `grades`: the grades that the words spell, however many, take the place of those that are held.
+    pub fn take_grades(&mut self, heap: Global, words: &[&[u8]]) -> Result<Answer, Trouble>
+        ensures { Came (regraded (held_by self.old) (read_all K.Grade.Readable.reads K.Grade.Readable.bounds 2 (drop 1 (word_bytes words.now)))) (held_by self.old) result (held_by self.new) }
+    {
+        self.grades = read_rest(heap, words)?;
+        Ok(Answer::Grades(self.grades.len()))
+    }
+}
+
+impl<K: Kind> Holding<K>
+where
+    K::Label: Readable,
+{
     // `poke label`: overwrites one label.
     pub fn poke(&mut self, words: &[&[u8]]) -> Result<Answer, Trouble>
-        ensures { Does (poked (held_by self.old) (poke_asked L.Readable.reads L.Readable.bounds (word_bytes words.now))) result (held_by self.new) }
+        ensures { Does (poked (held_by self.old) (poke_asked K.Label.Readable.reads K.Label.Readable.bounds (word_bytes words.now))) result (held_by self.new) }
     {
-        let (index, label) = poke_asked::<L>(words)?;
+        let Poking { index, label } = poke_asked(words)?;
         let count = self.labels.len();
         let Some(old) = self.labels.get_mut(usize::from(index)) else {
             return Err(Trouble::NoLabel(count));
@@ -40,15 +59,15 @@ impl<L: Readable, G> Holding<L, G> {
     }
 }
 
-impl<L, G> Holding<L, G> {
-    // `list`: the list that was asked for, new and empty, takes the place of the one that is held. It takes what `choice_asked` answers, since the clause holds of any choice, whoever made it.
-    pub fn take_list<K: Kind<Label = L, Grade = G>>(
-        &mut self,
-        asked: Result<Choice<G>, NotChosen>,
-    ) -> Result<Answer, Trouble>
-        ensures { Does (chose K.Kind (held_by self.old) asked) result (held_by self.new) }
+impl<K: Kind> Holding<K>
+where
+    K::Grade: Single,
+{
+    // `list`: the list that is asked for, new and empty, takes the place of the one that is held.
+    pub fn take_list(&mut self, words: &[&[u8]]) -> Result<Answer, Trouble>
+        ensures { Does (chose K.Kind (held_by self.old) (choice_asked K.Grade.Spelt.reads K.Grade.Spelt.bounds K.Grade.makes (word_bytes words.now))) result (held_by self.new) }
     {
-        let choice = match asked {
+        let choice = match choice_asked(words) {
             Ok(choice) => choice,
             Err(NotChosen::Refused(fault)) => return Ok(Answer::Refused(fault.told())),
             // A trouble is the command's own error, and a refusal its answer.
@@ -62,55 +81,48 @@ impl<L, G> Holding<L, G> {
             Err(fault) => Ok(Answer::Refused(fault.told())),
         }
     }
+}
 
+impl<K: Kind> Holding<K> {
     // `enter`: a station enters the list that is held.
-    pub fn enter<K: Kind<Label = L, Grade = G>>(
-        &mut self,
-        words: &[&[u8]],
-    ) -> Result<Answer, Trouble>
+    pub fn enter(&mut self, words: &[&[u8]]) -> Result<Answer, Trouble>
         ensures { Does (entered K.Kind (held_by self.old) (enter_asked (word_bytes words.now))) result (held_by self.new) }
     {
-        let (station, handed) = enter_asked(words)?;
+        let Entering { station, handed } = enter_asked(words)?;
         let labels = handed_over(self.labels.as_slice(), handed);
-        match CandidateList::<K>::enter(&mut self.list, station, labels) {
+        match self.list.enter(station, labels) {
             Ok(entered) => Ok(Answer::Entered(entered)),
             Err(fault) => Ok(Answer::Refused(fault.told())),
         }
     }
 
     // `pick`: takes a station from the list that is held.
-    pub fn pick<K: Kind<Label = L, Grade = G>>(
-        &mut self,
-        words: &[&[u8]],
-    ) -> Result<Answer, Trouble>
+    pub fn pick(&mut self, words: &[&[u8]]) -> Result<Answer, Trouble>
         ensures { Does (picked K.Kind (held_by self.old) (pick_asked (word_bytes words.now))) result (held_by self.new) }
     {
         let handed = pick_asked(words)?;
         let labels = handed_over(self.labels.as_slice(), handed);
-        Ok(Answer::Picked(CandidateList::<K>::pick(&mut self.list, labels)))
+        Ok(Answer::Picked(self.list.pick(labels)))
     }
 
     // `empty`: empties the list that is held.
-    pub fn empty<K: Kind<Label = L, Grade = G>>(
-        &mut self,
-        words: &[&[u8]],
-    ) -> Result<Answer, Trouble>
+    pub fn empty(&mut self, words: &[&[u8]]) -> Result<Answer, Trouble>
         ensures { Does (emptied K.Kind (held_by self.old) (word_bytes words.now)) result (held_by self.new) }
     {
-        if words.len() != 1 {
+        let [_] = words else {
             return Err(Trouble::Usage(Usage::Empty));
-        }
-        CandidateList::<K>::empty(&mut self.list);
+        };
+        self.list.empty();
         Ok(Answer::Emptied)
     }
 
     // `waiting`: how many stations wait in the list that is held.
-    pub fn waiting<K: Kind<Label = L, Grade = G>>(&self, words: &[&[u8]]) -> Result<Answer, Trouble>
+    pub fn waiting(&self, words: &[&[u8]]) -> Result<Answer, Trouble>
         ensures { Does (waited K.Kind (held_by self.now) (word_bytes words.now)) result (held_by self.now) }
     {
-        if words.len() != 1 {
+        let [_] = words else {
             return Err(Trouble::Usage(Usage::Waiting));
-        }
-        Ok(Answer::Waiting(CandidateList::<K>::waiting(&self.list)))
+        };
+        Ok(Answer::Waiting(self.list.waiting()))
     }
 }

@@ -1,4 +1,4 @@
-// What the words of a list command ask for. Words are counted from 0: word 0 is the command itself.
+// What a line asks for, of the commands on what is held. Its first word is the command itself.
 ghost use Rattle.std.specs.Prelude.{◌≡◌};
 ghost use Rattle.script.specs.Words.{word_bytes};
 ghost use Rattle.hands.specs.declared.ask.NotChosen.TheVariants.{Refused, Troubled};
@@ -7,7 +7,7 @@ ghost use Rattle.hands.specs.Asks.{enter_asked, pick_asked, poke_asked, choice_a
 use answers::trouble::{Trouble, Usage};
 use choice::list_name::ListName;
 use choice::make::Choice;
-use reading::read::{Readable, read_one, word_at};
+use reading::read::{Readable, read_word};
 use reading::single::Single;
 use refusals::kind::KindFault;
 use script::words::reads_as;
@@ -37,13 +37,34 @@ impl From<Trouble> for NotChosen {
     }
 }
 
+// What `enter` asks for.
+#[derive(Clone, Copy, Debug, PartialEq, Eq)]
+pub struct Entering {
+    pub station: u16,
+    // How many labels are handed over, if not all.
+    pub handed: Option<u16>,
+}
+
+// What `poke label` asks for.
+#[derive(Clone, Copy, Debug, PartialEq, Eq)]
+pub struct Poking<L> {
+    pub index: u16,
+    pub label: L,
+}
+
 // `enter`: a station, and how many labels are handed over, if not all.
-pub fn enter_asked(words: &[&[u8]]) -> Result<(u16, Option<u16>), Trouble>
+pub fn enter_asked(words: &[&[u8]]) -> Result<Entering, Trouble>
     ensures { result ≡ enter_asked (word_bytes words.now) }
 {
-    match words.len() {
-        2 => Ok((read_one(words, 1)?, None)),
-        3 => Ok((read_one(words, 1)?, Some(read_one(words, 2)?))),
+    match words {
+        [_, station] => Ok(Entering {
+            station: read_word(station, 2)?,
+            handed: None,
+        }),
+        [_, station, handed] => Ok(Entering {
+            station: read_word(station, 2)?,
+            handed: Some(read_word(handed, 3)?),
+        }),
         _ => Err(Trouble::Usage(Usage::Enter)),
     }
 }
@@ -52,47 +73,53 @@ pub fn enter_asked(words: &[&[u8]]) -> Result<(u16, Option<u16>), Trouble>
 pub fn pick_asked(words: &[&[u8]]) -> Result<Option<u16>, Trouble>
     ensures { result ≡ pick_asked (word_bytes words.now) }
 {
-    match words.len() {
-        1 => Ok(None),
-        2 => Ok(Some(read_one(words, 1)?)),
+    match words {
+        [_] => Ok(None),
+        [_, handed] => Ok(Some(read_word(handed, 2)?)),
         _ => Err(Trouble::Usage(Usage::Pick)),
     }
 }
 
 // `poke label`: an index and a label.
-pub fn poke_asked<L: Readable>(words: &[&[u8]]) -> Result<(u16, L), Trouble>
+pub fn poke_asked<L: Readable>(words: &[&[u8]]) -> Result<Poking<L>, Trouble>
     ensures { result ≡ poke_asked L.Readable.reads L.Readable.bounds (word_bytes words.now) }
 {
-    if words.len() != 4 || !reads_as(word_at(words, 1), "label") {
-        return Err(Trouble::Usage(Usage::Poke));
+    match words {
+        [_, what, index, label] if reads_as(what, "label") => Ok(Poking {
+            index: read_word(index, 3)?,
+            label: read_word(label, 4)?,
+        }),
+        _ => Err(Trouble::Usage(Usage::Poke)),
     }
-    Ok((read_one(words, 2)?, read_one(words, 3)?))
 }
 
 // The step of a threshold list.
-fn step_asked<G: Single>(words: &[&[u8]]) -> Result<Choice<G>, NotChosen>
-    ensures { result ≡ step_asked G.Spelt.reads G.Spelt.bounds G.makes (word_bytes words.now) }
+fn step_asked<G: Single>(step: &[u8]) -> Result<Choice<G>, NotChosen>
+    ensures { result ≡ step_asked G.Spelt.reads G.Spelt.bounds G.makes step.now }
 {
-    Ok(Choice::Threshold(G::single(read_one(words, 2)?)?))
+    Ok(Choice::Threshold(G::single(read_word(step, 3)?)?))
 }
 
 // The width and the span of buckets.
-fn buckets_asked<G>(words: &[&[u8]]) -> Result<Choice<G>, NotChosen>
-    ensures { result ≡ buckets_asked (word_bytes words.now) }
+fn buckets_asked<G>(width: &[u8], span: &[u8]) -> Result<Choice<G>, NotChosen>
+    ensures { result ≡ buckets_asked width.now span.now }
 {
-    Ok(Choice::Bucket(read_one(words, 2)?, read_one(words, 3)?))
+    Ok(Choice::Bucket(read_word(width, 3)?, read_word(span, 4)?))
 }
 
 // `list`: the list that is chosen.
 pub fn choice_asked<G: Single>(words: &[&[u8]]) -> Result<Choice<G>, NotChosen>
     ensures { result ≡ choice_asked G.Spelt.reads G.Spelt.bounds G.makes (word_bytes words.now) }
 {
-    match (ListName::try_from(word_at(words, 1)), words.len()) {
-        (Ok(ListName::FirstIn), 2) => Ok(Choice::FirstIn),
-        (Ok(ListName::TwoEnded), 2) => Ok(Choice::TwoEnded),
-        (Ok(ListName::SmallLabel), 2) => Ok(Choice::SmallLabel),
-        (Ok(ListName::Threshold), 3) => step_asked(words),
-        (Ok(ListName::Bucket), 4) => buckets_asked(words),
+    let [_, name, values @ ..] = words else {
+        return Err(NotChosen::Troubled(Trouble::Usage(Usage::List)));
+    };
+    match (ListName::try_from(*name), values) {
+        (Ok(ListName::FirstIn), []) => Ok(Choice::FirstIn),
+        (Ok(ListName::TwoEnded), []) => Ok(Choice::TwoEnded),
+        (Ok(ListName::SmallLabel), []) => Ok(Choice::SmallLabel),
+        (Ok(ListName::Threshold), [step]) => step_asked(step),
+        (Ok(ListName::Bucket), [width, span]) => buckets_asked(width, span),
         _ => Err(NotChosen::Troubled(Trouble::Usage(Usage::List))),
     }
 }

@@ -1,11 +1,23 @@
 // What a site holds beside its net, in one kind of grade.
-use choice::any::AnyList;
+ghost use Rattle.std.specs.Prelude.{◌≡◌};
+ghost use Rattle.hands.specs.Held.{held_by};
 
-// The grades, of which there may be any number (that they are one per link is tested where they are used); the labels, one per station;
-// and the candidate list.
+use choice::any::AnyList;
+use kinds::kind::Kind;
+
+// The grades, of which there may be any number (that they are one per link is tested where they are used); the labels, at first one per
+// station; and the candidate list.
 #[derive(Drop)]
-pub struct Holding<L, G> {
-    pub grades: Vec<G>,
-    pub labels: Vec<L>,
-    pub list: AnyList<L, G>,
+pub struct Holding<K: Kind> {
+    pub(crate) grades: Vec<K::Grade>,
+    pub(crate) labels: Vec<K::Label>,
+    pub(crate) list: AnyList<K>,
+}
+
+impl<K: Kind> Holding<K> {
+    pub fn grades(&self) -> &[K::Grade]
+        ensures { result.now ≡ (held_by self.now).grades }
+    {
+        self.grades.as_slice()
+    }
 }

@@ -1,2 +1,4 @@
 pub mod Rings
 pub mod Queues
+pub mod Leaving
+pub mod Behind

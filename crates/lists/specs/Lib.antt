@@ -1,5 +1,6 @@
 pub mod Meaning
 pub mod Order
+pub mod Runs
 pub mod Stations
 pub mod Ring
 pub mod Queues

@@ -1,10 +1,10 @@
 -- Lists of stations: what one more, or one less, makes of what is held, and how many are held.
 use Rattle.std.specs.Prelude.{◌≡◌, ℕ, ◌<◌, Bool, true, false, not, ◌&&◌, ◌||◌, List, [], ◌∷◌, ◌++◌, length, ◌==◌, nat_lt, slice_index_or, slice_set, refl}
 use Rattle.std.proofs.Common.{sym, ap, ◌∙◌, ⊎_elim, arith, get_or-set_same, get_or-set_other}
-use Rattle.std.proofs.lemmas.Bool.{cases_eq, eq-eqb, ne_eqb, and_parts, not-true, ltb-true}
+use Rattle.std.proofs.lemmas.Bool.{cases_eq, eq-eqb, ne_eqb, and_parts, not-true, ltb-true, or_right}
 use Rattle.std.proofs.lemmas.Bool.Decides.{nat_tests}
 use Rattle.lists.specs.Meaning.{count_below}
-use Rattle.lists.specs.Stations.{holds, proper}
+use Rattle.lists.specs.Stations.{holds, proper, rest_of}
 use Rattle.lists.specs.Counts.{count_none, count-one, count_most}
 
 pub holds-push : (xs : List ℕ) (x k : ℕ) → holds (xs ++ x ∷ []) k ≡ (k == x || holds xs k)
@@ -37,6 +37,10 @@ holds-below [] k p h = let z : ◌≡◌ {A = ℕ} 0 1 = cc in omega arith
 holds-below (y ∷ ys) k p h =
     let a = proper-parts y ys p in
     ⊎_elim (λ (e : k ≡ y). omega (arith, a.0)) (λ (ne : k ≡ y → ⊥). holds-below ys k a.2 (grind (arith, nat_tests))) (cases_eq k y)
+
+pub in-rest : (xs : List ℕ) (k : ℕ) → holds (rest_of xs) k ≡ true → holds xs k ≡ true
+in-rest [] k h = h
+in-rest (x ∷ xs) k h = or_right (k == x) (holds xs k) h
 
 -- the rest holds what the whole does, but for the top
 pub holds-rest : (x : ℕ) (xs : List ℕ) (k : ℕ) → proper (x ∷ xs) ≡ true → holds xs k ≡ (holds (x ∷ xs) k && not (k == x))

@@ -2,11 +2,13 @@
 -- its label is at least as good as the threshold or was not handed over, else the bottom of the second; the top of the first is picked.
 -- Where the first is empty, the threshold first becomes the best label of the second carried over the step, and all stations there that now pass
 -- move over in their order. Where some labels there were not handed over, only the stations without one move, and the threshold stays.
-use Rattle.std.specs.Prelude.{ℕ, Bool, true, false, not, ◌||◌, List, [], ◌∷◌, ◌++◌, Some, None, filter, Option, if◌then◌else◌}
+use Rattle.std.specs.Prelude.{◌≡◌, ℕ, Bool, true, false, not, ◌||◌, List, [], ◌∷◌, ◌++◌, Some, None, filter, Option, if◌then◌else◌}
 use Rattle.std.specs.Option.{option_map, option_and_then, unwrap_or}
 use Rattle.std.specs.List.{slice_get}
 use Rattle.kinds.specs.declared.kind.Kind.{Ghosts}
+use Rattle.kinds.specs.Order.{Better}
 use Rattle.lists.specs.Order.{Order}
+use Rattle.lists.specs.Runs.{Move, handing, run}
 use Rattle.lists.specs.Queues.{line_of}
 use Rattle.lists.specs.Stations.{holds, top_of, rest_of}
 use Rattle.lists.specs.declared.threshold.Threshold.{Threshold}
@@ -18,7 +20,7 @@ pub record TwoQueues (L G : Type 0) : Type 0 where
   pub limit : L
   pub step : G
 
-abbrev pub queues_of : {L G : Type 0} → Threshold L G → TwoQueues L G
+abbrev pub queues_of : {K L G : Type 0} {k : Ghosts K L G} → Threshold K L G k → TwoQueues L G
 queues_of s = record { first = line_of s.first; second = line_of s.second; limit = s.limit; step = s.step }
 
 module _ {K L G : Type 0} (k : Ghosts K L G) where
@@ -85,3 +87,13 @@ module _ {K L G : Type 0} (k : Ghosts K L G) where
     entering = λ m x ls. if in_either m x then m else if passes (Some m.limit) (slice_get ls x) then to_first m x else to_second m x;
     picking = λ m ls. top_taken (readied m.first m ls);
   }
+
+  -- after these moves since emptying, with the same labels handed over at each
+  abbrev pub moved : G → List L → List Move → TwoQueues L G
+  moved step ls moves = run threshold (no_queues step) (handing ls moves)
+
+  -- While labels stay, since emptying, a station that is picked is better than each that is left in the second queue, all of which have their labels handed over.
+  abbrev pub WorseBehind : G → Type 0
+  WorseBehind step =
+      (ls : List L) (moves : List Move) (x y : ℕ) (a : L) → (threshold.picking (moved step ls moves) ls).0 ≡ Some x
+      → holds (threshold.picking (moved step ls moves) ls).1.second y ≡ true → slice_get ls x ≡ Some a → (b : L) × ((slice_get ls y ≡ Some b) × Better k a b)

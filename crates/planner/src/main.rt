@@ -11,9 +11,20 @@ const HELP: &str = "usage: planner [--help | FILE]
 Reads a site script from FILE, or from standard input, and answers each command by one line.
 
   net <starts..> / <heads..>     a new site over this table of links
-  kind airtime|chance|margin     how links are graded; every link has grade 0 then
+  kind airtime|chance|margin     how links are graded; grades, labels and list are new then
   grades <grades..>              the grades of the links, in their order
+  list first-in|two-ended|small-label
+  list threshold <step>
+  list bucket <width> <span>     a new candidate list, which is empty
   path <links..>                 the grade of that path
+
+The candidate list by hand (handed: only the first so many labels are handed over):
+
+  enter <station> [handed]       the station waits; answers new or waiting
+  pick [handed]                  takes a waiting station, or none
+  empty                          no station waits
+  waiting                        how many stations wait
+  poke label <index> <value>     overwrites a label
 
 Blank lines and lines that begin with # are passed over. What cannot be used is refused by a number:
 refused <number> place <place> layer <layer>. A line that cannot be carried out answers error line <n>: <why>,

@@ -9,7 +9,7 @@ use Rattle.answers.specs.declared.trouble.Bounds.{Bounds}
 use Rattle.answers.specs.declared.trouble.Trouble.{Trouble}
 use Rattle.answers.specs.declared.trouble.Trouble.TheVariants.{NotNumber}
 use Rattle.script.specs.Words.{word_bytes}
-use Rattle.reading.specs.Reading.{read_more, read_all}
+use Rattle.reading.specs.Reading.{read_more, read_all, word_read}
 
 -- values that were read, before what comes of the words that are left
 abbrev pub after : {T : Type 0} → List T → Result (List T) Trouble → Result (List T) Trouble
@@ -40,24 +40,22 @@ pub words_long : (refs : List (Bor (List ℕ))) (to : ℕ) → to ≤ length ref
 words_long refs to h = simp (length-take, length-map) (omega arith)
 
 -- the word at index i gives one value more, or ends the reading
-one_more : {T : Type 0} (reads : List ℕ → Option T) (bounds : Bounds) (ws : List (List ℕ)) (i : ℕ) (xs : List T) (o : Option T) (r : Result T Trouble) → i < length ws
-    → o ≡ reads (get_or ws i []) → r ≡ ok_or o (NotNumber (i + 1) bounds)
-    → MatchResult r (λ x. after xs (read_all reads bounds (i + 1) (drop i ws)) ≡ after (xs ++ x ∷ []) (read_all reads bounds (i + 1 + 1) (drop (i + 1) ws)))
+one_more : {T : Type 0} (reads : List ℕ → Option T) (bounds : Bounds) (ws : List (List ℕ)) (i : ℕ) (xs : List T) (o : Option T) → i < length ws → o ≡ reads (get_or ws i [])
+    → MatchResult (ok_or o (NotNumber (i + 1) bounds)) (λ x. after xs (read_all reads bounds (i + 1) (drop i ws)) ≡ after (xs ++ x ∷ []) (read_all reads bounds (i + 1 + 1) (drop (i + 1) ws)))
     (λ e. after xs (read_all reads bounds (i + 1) (drop i ws)) ≡ Err e)
-one_more reads bounds ws i xs None r h e v = rw v (read_none reads bounds ws i xs h e)
-one_more reads bounds ws i xs (Some x) r h e v = rw v (read_one reads bounds ws i xs x h e)
+one_more reads bounds ws i xs None h e = read_none reads bounds ws i xs h e
+one_more reads bounds ws i xs (Some x) h e = read_one reads bounds ws i xs x h e
 
 -- the same of the n-th of the words from an index on, each with its index
-pub turn : {T : Type 0} (reads : List ℕ → Option T) (bounds : Bounds) (words : List (Bor (List ℕ))) (from n : ℕ) (xs : List T) (x : ℕ × Bor (List ℕ)) (o : Option T) (b : Bounds) (r : Result T Trouble)
-    → n < length (drop from (enumerate_from 0 words)) → x ≡ get_or (drop from (enumerate_from 0 words)) n x → o ≡ reads x.1.now → b ≡ bounds → r ≡ ok_or o (NotNumber (x.0 + 1) b)
+pub turn : {T : Type 0} (reads : List ℕ → Option T) (bounds : Bounds) (words : List (Bor (List ℕ))) (from n : ℕ) (xs : List T) (x : ℕ × Bor (List ℕ)) (r : Result T Trouble)
+    → n < length (drop from (enumerate_from 0 words)) → x ≡ get_or (drop from (enumerate_from 0 words)) n x → r ≡ word_read reads bounds x.1.now (x.0 + 1)
     → MatchResult r (λ y. after xs (read_all reads bounds (from + n + 1) (drop (from + n) (word_bytes words))) ≡ after (xs ++ y ∷ []) (read_all reads bounds (from + n + 1 + 1) (drop (from + n + 1) (word_bytes words))))
     (λ e. after xs (read_all reads bounds (from + n + 1) (drop (from + n) (word_bytes words))) ≡ Err e)
-turn reads bounds words from n xs x o b r h e k d v =
+turn reads bounds words from n xs x r h e v =
     let here : from + n < length words = omega (arith, length-drop from (enumerate_from 0 words), length-enumerate_from 0 words) in
     let at : x ≡ (0 + (from + n), get_or words (from + n) x.1) = e ∙ get_or-drop from (enumerate_from 0 words) n x ∙ get_or-enumerate_from 0 words (from + n) x here in
     let i : x.0 ≡ from + n = ap (λ p. p.0) at ∙ omega arith in
     let there : from + n < length (word_bytes words) = omega (arith, length-map words (λ x. x.now)) in
     let w : x.1.now ≡ get_or (word_bytes words) (from + n) [] =
     ap (λ p. p.1.now) at ∙ sym (get_or-map (λ x. x.now) words (from + n) x.1) ∙ get_or_default (word_bytes words) (from + n) x.1.now [] there in
-    one_more reads bounds (word_bytes words) (from + n) xs o r there (k ∙ ap reads w)
-    (v ∙ ap (λ j. ok_or o (NotNumber (j + 1) b)) i ∙ ap (λ y. ok_or o (NotNumber (from + n + 1) y)) d)
+    rw (v ∙ ap (λ j. word_read reads bounds x.1.now (j + 1)) i) (one_more reads bounds (word_bytes words) (from + n) xs (reads x.1.now) there (ap reads w))

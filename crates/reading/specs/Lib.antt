@@ -1,3 +1,4 @@
 pub mod Spelling
 pub mod Reading
 pub mod Nets
+pub mod Readings

@@ -1,5 +1,5 @@
 -- Reading the values that words spell.
-use Rattle.std.specs.Prelude.{◌≡◌, ℕ, ◌+◌, ◌⊎◌, List, [], ◌∷◌, Some, None, Ok, Err, Option, Result, MatchResult, slice_index_or}
+use Rattle.std.specs.Prelude.{◌≡◌, ℕ, ◌+◌, ◌⊎◌, List, [], ◌∷◌, Some, None, Ok, Err, Option, Result, MatchResult}
 use Rattle.std.specs.Option.{ok_or}
 use Rattle.answers.specs.declared.trouble.Bounds.{Bounds}
 use Rattle.answers.specs.declared.trouble.Trouble.{Trouble}
@@ -16,9 +16,9 @@ abbrev pub read_all : {T : Type 0} → (List ℕ → Option T) → Bounds → �
 read_all reads bounds k [] = Ok []
 read_all reads bounds k (w ∷ ws) = read_more (reads w) (NotNumber k bounds) (read_all reads bounds (k + 1) ws)
 
--- the value that the word at index i spells, or the trouble with it
-abbrev pub one_read : {T : Type 0} → (List ℕ → Option T) → Bounds → List (List ℕ) → ℕ → Result T Trouble
-one_read reads bounds ws i = ok_or (reads (slice_index_or ws i [])) (NotNumber (i + 1) bounds)
+-- the value that a word spells, which is the k-th word of its line, or the trouble with it
+abbrev pub word_read : {T : Type 0} → (List ℕ → Option T) → Bounds → List ℕ → ℕ → Result T Trouble
+word_read reads bounds w k = ok_or (reads w) (NotNumber k bounds)
 
 -- an answer is what the definition says, unless there was not enough memory
 abbrev pub Got : {V T : Type 0} → (V → T) → Result T Trouble → Result V Trouble → Type 0

@@ -1,9 +1,9 @@
 // Reading values from words. Casts lose nothing, which is proved; `TryFrom` would add a case that cannot come.
-ghost use Rattle.std.specs.Prelude.{◌≡◌, ℕ, ◌+◌, List, [], drop, vec_items, Option, slice_index_or};
+ghost use Rattle.std.specs.Prelude.{◌≡◌, ℕ, ◌+◌, List, drop, vec_items, Option};
 ghost use Rattle.answers.specs.declared.trouble.Bounds.{Bounds};
 ghost use Rattle.reading.specs.Spelling.{short_read, long_read, airtime_read, chance_reading, margin_read};
 ghost use Rattle.script.specs.Words.{word_bytes};
-ghost use Rattle.reading.specs.Reading.{read_all, one_read, Got};
+ghost use Rattle.reading.specs.Reading.{read_all, word_read, Got};
 
 use answers::trouble::{Bounds, Trouble};
 use kinds::airtime::Airtime;
@@ -95,6 +95,13 @@ impl Readable for Margin {
     }
 }
 
+// The value that a word spells, which is the word of this number of its line, counted from 1.
+pub fn read_word<T: Readable>(word: &[u8], number: usize) -> Result<T, Trouble>
+    ensures { result ≡ word_read T.Readable.reads T.Readable.bounds word.now number }
+{
+    T::read(word).ok_or(Trouble::NotNumber(number, T::bounds()))
+}
+
 // The heap and the words of a line stay two parameters here and above, since the library passes the allocator alone, and first.
 
 // The values that the words from an index on spell, or what is wrong with the first that spells none.
@@ -108,7 +115,7 @@ pub(crate) fn read_all<T: Readable>(
     let mut out = Vec::new(heap);
     // A loop, since `try_collect` does not ensure that it fails where an item fails.
     for (at, word) in words.iter().enumerate().skip(from) {
-        out.push(T::read(word).ok_or(Trouble::NotNumber(at + 1, T::bounds()))?)?;
+        out.push(read_word(word, at + 1)?)?;
     }
     Ok(out)
 }
@@ -118,18 +125,4 @@ pub fn read_rest<T: Readable>(heap: Global, words: &[&[u8]]) -> Result<Vec<T>, T
     ensures { Got vec_items (read_all T.Readable.reads T.Readable.bounds 2 (drop 1 (word_bytes words.now))) result }
 {
     read_all(heap, words, 1)
-}
-
-// The word at an index, counted from 0, or one without a byte beyond the last.
-pub fn word_at<'a>(words: &[&'a [u8]], at: u8) -> &'a [u8]
-    ensures { result.now ≡ slice_index_or (word_bytes words.now) at [] }
-{
-    words.get(usize::from(at)).copied().unwrap_or(b"")
-}
-
-// The value that the word at an index, counted from 0, spells.
-pub fn read_one<T: Readable>(words: &[&[u8]], at: u8) -> Result<T, Trouble>
-    ensures { result ≡ one_read T.Readable.reads T.Readable.bounds (word_bytes words.now) at }
-{
-    T::read(word_at(words, at)).ok_or(Trouble::NotNumber(usize::from(at) + 1, T::bounds()))
 }

@@ -13,7 +13,7 @@ abbrev pub reply_text : ℕ → Result Answer Trouble → List ℕ
 reply_text n (Ok a) = answer_text a
 reply_text n (Err e) = error_text n e
 
--- nothing is said of a line whose text found no memory, but that it was carried out
+-- where the text found no memory, nothing is said of it; the line was carried out, or found no memory itself
 abbrev pub Replied : Option Model → ℕ → List ℕ → Result (Option (String Global)) AllocError → Option Model → Type 0
 Replied o n line (Ok None) p = Obeyed o line (Ok None) p
 Replied o n line (Ok (Some text)) p = (x : Result Answer Trouble) × Obeyed o line (as_line x) p × (string_bytes text ≡ reply_text n x)

@@ -9,7 +9,7 @@ use crate::plot::Site;
 use crate::plot::acts::NotOpened;
 use answers::answer::Answer;
 use answers::trouble::{Failed, Trouble};
-use answers::verb::{SiteVerb, Verb};
+use answers::verb::Verb;
 use reading::net_line::read_net;
 use refusals::told::Fault;
 use script::words::words;
@@ -49,26 +49,13 @@ impl Desk {
     fn command(&mut self, heap: Global, words: &[&[u8]], verb: Verb) -> Result<Answer, Trouble>
         ensures { Commanded (Some verb) (desk_of self.old) (word_bytes words.now) result (desk_of self.new) }
     {
-        // Each arm asks for the site itself: the list commands are unknown before there is a net, too.
         match verb {
             Verb::Net => self.open(heap, words),
-            Verb::Site(SiteVerb::Kind) => self
+            Verb::Site(verb) => self
                 .site
                 .as_mut()
                 .ok_or(Trouble::NoNet)?
-                .choose(heap, words),
-            Verb::Site(SiteVerb::Grades) => self
-                .site
-                .as_mut()
-                .ok_or(Trouble::NoNet)?
-                .take_grades(heap, words),
-            Verb::Site(SiteVerb::Path) => self
-                .site
-                .as_ref()
-                .ok_or(Trouble::NoNet)?
-                .path(heap, words),
-            // The program does not take the list commands yet.
-            Verb::Site(_) => Err(Trouble::Unknown),
+                .obey(heap, words, verb),
         }
     }
 
@@ -88,8 +75,8 @@ impl Desk {
     pub fn obey(&mut self, heap: Global, line: &[u8]) -> Result<Option<Answer>, Trouble>
         ensures { Obeyed (desk_of self.old) line.now result (desk_of self.new) }
     {
-        let all = words(heap, line)?;
-        self.follow(heap, all.as_slice())
+        let found = words(heap, line)?;
+        self.follow(heap, found.as_slice())
     }
 
     // The text that answers one line of a script, which has this number, or nothing where the line has no answer.

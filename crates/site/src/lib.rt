@@ -1,7 +1,7 @@
-// A site at work: the commands of a site script carried out on a net and its grades.
+// A site at work: the commands of a site script carried out on a net and what is held beside it.
 #![tactic(auto)]
 
 pub mod desk;
-pub mod grades;
-pub mod plot;
-pub mod way;
+mod held;
+mod plot;
+mod way;

@@ -72,39 +72,39 @@ fn part<K: Kind>(
     }
 }
 
-// A new threshold list, with this step. As a method it would take the kind all the same, as `Threshold::new::<K>(step)`.
-pub fn new_threshold<K: Kind>(step: K::Grade) -> Threshold<K::Label, K::Grade>
-    ensures { queues_of result ≡ no_queues K.Kind step }
-{
-    Threshold {
-        first: Queue::new(),
-        second: Queue::new(),
-        limit: K::start(),
-        step,
+impl<K: Kind> Threshold<K> {
+    // A new list, with this step.
+    pub fn new(step: K::Grade) -> Threshold<K>
+        ensures { queues_of result ≡ no_queues K.Kind step }
+    {
+        Threshold {
+            first: Queue::new(),
+            second: Queue::new(),
+            limit: K::start(),
+            step,
+        }
     }
-}
 
-impl<L: Copy, G: Copy> Threshold<L, G> {
     // The threshold that a pick sets where the first queue is empty: the best label of the second, carried over the step; or none where it
     // sets none.
-    fn loosened<K: Kind<Label = L, Grade = G>>(&self, labels: &[L]) -> Option<L>
+    fn loosened(&self, labels: &[K::Label]) -> Option<K::Label>
         ensures { result ≡ loosened K.Kind (queues_of self.now) labels.now }
     {
         best_label::<K>(labels, &self.second).map(|best| K::carry(best, self.step))
     }
 
     // Fills the first queue, which is empty, from the second.
-    fn refill<K: Kind<Label = L, Grade = G>>(&mut self, labels: &[L])
+    fn refill(&mut self, labels: &[K::Label])
         requires { line_of self.old.first ≡ [] }
         ensures { queues_of self.new ≡ refilled K.Kind (queues_of self.old) labels.now }
     {
-        let limit = self.loosened::<K>(labels);
+        let limit = self.loosened(labels);
         part::<K>(&mut self.first, &mut self.second, labels, limit);
         self.limit = limit.unwrap_or(self.limit);
     }
 }
 
-impl<K: Kind> CandidateList<K> for Threshold<K::Label, K::Grade> {
+impl<K: Kind> CandidateList<K> for Threshold<K> {
     ghost waits = { waits_by queues_of (threshold K.Kind) };
 
     ghost emptied = { emptied_by queues_of (threshold K.Kind) };
@@ -139,7 +139,7 @@ impl<K: Kind> CandidateList<K> for Threshold<K::Label, K::Grade> {
 
     fn pick(&mut self, labels: &[K::Label]) -> Option<u16> {
         if self.first.len() == 0 {
-            self.refill::<K>(labels);
+            self.refill(labels);
         }
         self.first.pop().map(Station::index)
     }

@@ -5,7 +5,7 @@ ghost use Rattle.site.specs.declared.plot.acts.NotOpened.TheVariants.{Refused, M
 ghost use Rattle.site.specs.Plots.{Opens};
 
 use super::Site;
-use crate::grades::zero_grades;
+use crate::held::AnyHolding;
 use answers::verb::KindName;
 use net::star::Net;
 use refusals::net::NetFault;
@@ -38,17 +38,17 @@ impl From<AllocError> for NotOpened {
 }
 
 impl Site {
-    // A site over the net of two lists, where every link has airtime 0.
+    // A site over the net of two lists, in airtimes.
     pub(crate) fn open(heap: Global, starts: Vec<u16>, heads: Vec<u16>) -> Result<Site, NotOpened>
         ensures { Opens (table starts.items heads.items) result }
     {
         let mut net = Net::single();
         net.fill(starts.as_slice(), heads.as_slice())?;
-        let grades = zero_grades(heap, KindName::Airtime, heads.len())?;
+        let held = AnyHolding::new(heap, KindName::Airtime, &net)?;
         Ok(Site {
             starts,
             heads,
-            grades,
+            held,
         })
     }
 }

@@ -1,17 +1,17 @@
-// What the commands do to an open site. Words are counted from 0 here: word 0 is the command itself.
+// What the commands do to an open site. The first word of a line is the command itself.
 ghost use Rattle.std.specs.Prelude.{◌≡◌};
 ghost use Rattle.net.specs.View.{table_of};
 ghost use Rattle.script.specs.Words.{word_bytes};
-ghost use Rattle.site.specs.Model.{grades_in};
+ghost use Rattle.site.specs.Model.{held_in};
 ghost use Rattle.site.specs.Plots.{model_of};
-ghost use Rattle.site.specs.Commands.{KindLine, GradesLine, PathLine, Graded};
+ghost use Rattle.site.specs.Commands.{KindLine, PathLine, Graded, SiteLine};
 
 use super::Site;
-use crate::grades::{Grades, read_grades, zero_grades};
+use crate::held::AnyHolding;
 use crate::way::propose;
 use answers::answer::{Answer, Label};
 use answers::trouble::Trouble;
-use answers::verb::KindName;
+use answers::verb::{KindName, SiteVerb};
 use kinds::airtime::by::ByAirtime;
 use kinds::chance::by::ByChance;
 use kinds::margin::by::ByMargin;
@@ -20,7 +20,7 @@ use reading::read::read_rest;
 use std::alloc::Global;
 
 impl Site {
-    // Chooses a kind, and gives every link its grade 0.
+    // Chooses a kind: what is held is new.
     pub(crate) fn choose(&mut self, heap: Global, words: &[&[u8]]) -> Result<Answer, Trouble>
         ensures { KindLine (model_of self.old) (word_bytes words.now) result (model_of self.new) }
     {
@@ -28,21 +28,11 @@ impl Site {
             return Err(Trouble::NoKind);
         };
         let kind = KindName::try_from(*word)?;
-        self.grades = zero_grades(heap, kind, self.heads.len())?;
+        self.held = AnyHolding::new(heap, kind, &self.net())?;
         Ok(Answer::Kind(kind))
     }
 
-    // Takes the grades that the words spell for those that the site has.
-    pub(crate) fn take_grades(&mut self, heap: Global, words: &[&[u8]]) -> Result<Answer, Trouble>
-        ensures { GradesLine (model_of self.old) (word_bytes words.now) result (model_of self.new) }
-    {
-        let grades = read_grades(heap, &self.grades, words)?;
-        let count = grades.count();
-        self.grades = grades;
-        Ok(Answer::Grades(count))
-    }
-
-    // The net of the site's lists.
+    // The net of the site's lists, which `fill` takes, since they are one.
     pub(crate) fn net(&self) -> Net<'_>
         ensures { table_of result ≡ (model_of self.now).links }
     {
@@ -57,21 +47,41 @@ impl Site {
         ensures { PathLine (model_of self.now) (word_bytes words.now) result }
     {
         let way = read_rest(heap, words)?;
-        graded(&self.net(), &self.grades, way.as_slice())
+        graded(&self.net(), &self.held, way.as_slice())
+    }
+
+    // Carries out a line that asks something of the site.
+    pub(crate) fn obey(
+        &mut self,
+        heap: Global,
+        words: &[&[u8]],
+        verb: SiteVerb,
+    ) -> Result<Answer, Trouble>
+        ensures { SiteLine verb (model_of self.old) (word_bytes words.now) result (model_of self.new) }
+    {
+        match verb {
+            SiteVerb::Kind => self.choose(heap, words),
+            SiteVerb::Path => self.path(heap, words),
+            SiteVerb::Held(verb) => self.held.obey(heap, words, verb),
+        }
     }
 }
 
-// The grade of a way in the kind that the grades have.
-fn graded(net: &Net, grades: &Grades, way: &[u16]) -> Result<Answer, Trouble>
-    ensures { Graded (table_of net.now) (grades_in grades.now) way.now result }
+// The grade of a way in the kind that the site has.
+fn graded(net: &Net, held: &AnyHolding, way: &[u16]) -> Result<Answer, Trouble>
+    ensures { Graded (table_of net.now) (held_in held.now) way.now result }
 {
-    // An arm for each kind, as for all that is done with grades.
-    match grades {
-        Grades::ByAirtime(list) => propose::<ByAirtime>(net, list.as_slice(), way).map(
+    // An arm for each kind, as for all that is done with what is held.
+    match held {
+        AnyHolding::ByAirtime(held) => propose::<ByAirtime>(net, held.grades(), way).map(
             Label::Airtime,
         ),
-        Grades::ByChance(list) => propose::<ByChance>(net, list.as_slice(), way).map(Label::Chance),
-        Grades::ByMargin(list) => propose::<ByMargin>(net, list.as_slice(), way).map(Label::Margin),
+        AnyHolding::ByChance(held) => propose::<ByChance>(net, held.grades(), way).map(
+            Label::Chance,
+        ),
+        AnyHolding::ByMargin(held) => propose::<ByMargin>(net, held.grades(), way).map(
+            Label::Margin,
+        ),
     }
     .map(Answer::Path)
     .map_err(Trouble::NotPath)

@@ -1,0 +1,26 @@
+-- What a line comes to that asks something of what a site holds beside its net, in any kind.
+use Rattle.std.specs.Prelude.{ℕ, List, drop, Result}
+use Rattle.refusals.specs.declared.kind.KindFault.{KindFault}
+use Rattle.kinds.specs.declared.kind.Kind.{Ghosts}
+use Rattle.answers.specs.declared.answer.Answer.{Answer}
+use Rattle.answers.specs.declared.trouble.Trouble.{Trouble}
+use Rattle.answers.specs.declared.verb.HeldVerb.{HeldVerb}
+use Rattle.answers.specs.declared.verb.HeldVerb.TheVariants as asked
+use Rattle.answers.specs.Outcomes.{Does, Came}
+use Rattle.reading.specs.declared.read.Readable.{Ghosts as Readings}
+use Rattle.reading.specs.Reading.{read_all}
+use Rattle.hands.specs.Held.{HeldBy}
+use Rattle.hands.specs.Acts.{regraded, poked, chose, entered, picked, emptied, waited}
+use Rattle.hands.specs.Asks.{enter_asked, pick_asked, poke_asked, choice_asked}
+
+-- labels, the grades of a list, and what a grade is made of that stands by itself, each read from words
+module _ {K L G S : Type 0} (k : Ghosts K L G) (label : Readings L) (grade : Readings G) (single : Readings S) (makes : S → Result G KindFault) where
+  -- only `grades` takes memory: the others never want any
+  abbrev pub HeldLine : HeldVerb → HeldBy L G → List (List ℕ) → Result Answer Trouble → HeldBy L G → Type 0
+  HeldLine asked.Grades h ws r n = Came (regraded h (read_all grade.reads grade.bounds 2 (drop 1 ws))) h r n
+  HeldLine asked.List h ws r n = Does (chose k h (choice_asked single.reads single.bounds makes ws)) r n
+  HeldLine asked.Poke h ws r n = Does (poked h (poke_asked label.reads label.bounds ws)) r n
+  HeldLine asked.Enter h ws r n = Does (entered k h (enter_asked ws)) r n
+  HeldLine asked.Pick h ws r n = Does (picked k h (pick_asked ws)) r n
+  HeldLine asked.Empty h ws r n = Does (emptied k h ws) r n
+  HeldLine asked.Waiting h ws r n = Does (waited k h ws) r n

@@ -1,0 +1,73 @@
+// What a site holds beside its net, in the kind that was chosen.
+ghost use Rattle.std.specs.Prelude.{◌≡◌, IfOk};
+ghost use Rattle.net.specs.View.{table_of};
+ghost use Rattle.script.specs.Words.{word_bytes};
+ghost use Rattle.site.specs.Commands.{HeldIn};
+ghost use Rattle.site.specs.Model.{held_in, new_in};
+
+use answers::answer::Answer;
+use answers::trouble::Trouble;
+use answers::verb::{HeldVerb, KindName};
+use hands::holding::Holding;
+use kinds::airtime::Airtime;
+use kinds::airtime::by::ByAirtime;
+use kinds::chance::Chance;
+use kinds::chance::by::ByChance;
+use kinds::margin::Margin;
+use kinds::margin::by::ByMargin;
+use net::star::Net;
+use std::alloc::{AllocError, Global};
+
+// Grades, labels and a candidate list, in any of the kinds.
+// The kind is chosen at run time, and each kind has types of its own: what is done with them needs an arm for each.
+#[derive(Drop)]
+pub enum AnyHolding {
+    ByAirtime(Holding<ByAirtime>),
+    ByChance(Holding<ByChance>),
+    ByMargin(Holding<ByMargin>),
+}
+
+impl AnyHolding {
+    // What is held beside a new net: every link has grade 0.
+    pub(crate) fn new(heap: Global, kind: KindName, net: &Net) -> Result<AnyHolding, AllocError>
+        ensures { IfOk result (λ h. held_in h ≡ new_in kind (table_of net.now)) }
+    {
+        let (stations, links) = (net.stations(), net.links());
+        match kind {
+            KindName::Airtime => Ok(AnyHolding::ByAirtime(Holding::new(
+                heap,
+                stations,
+                links,
+                Airtime::new(0),
+            )?)),
+            KindName::Chance => Ok(AnyHolding::ByChance(Holding::new(
+                heap,
+                stations,
+                links,
+                Chance::read(0),
+            )?)),
+            KindName::Margin => Ok(AnyHolding::ByMargin(Holding::new(
+                heap,
+                stations,
+                links,
+                Margin::new(0),
+            )?)),
+        }
+    }
+
+    // Carries out a line that asks something of what is held alone.
+    pub(crate) fn obey(
+        &mut self,
+        heap: Global,
+        words: &[&[u8]],
+        verb: HeldVerb,
+    ) -> Result<Answer, Trouble>
+        ensures { HeldIn verb (held_in self.old) (word_bytes words.now) result (held_in self.new) }
+    {
+        match self {
+            AnyHolding::ByAirtime(held) => held.obey(heap, words, verb),
+            AnyHolding::ByChance(held) => held.obey(heap, words, verb),
+            AnyHolding::ByMargin(held) => held.obey(heap, words, verb),
+        }
+    }
+}

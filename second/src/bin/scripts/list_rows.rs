@@ -1,0 +1,375 @@
+//! Lines about candidate lists, at random.
+
+use super::{Dice, Kind, Net, Script, KINDS};
+
+const LISTS: [&str; 5] = [
+    "first-in",
+    "two-ended",
+    "small-label",
+    "threshold",
+    "bucket",
+];
+
+impl Kind {
+    fn top_rank(self) -> usize {
+        match self {
+            Kind::Airtime => 4294967295,
+            Kind::Chance => 65536,
+            Kind::Margin => 255,
+        }
+    }
+
+    /// The label of that rank.
+    fn ranked(self, rank: usize) -> i64 {
+        let rank = rank.min(self.top_rank()) as i64;
+        match self {
+            Kind::Airtime => rank,
+            Kind::Chance => 65536 - rank,
+            Kind::Margin => 127 - rank,
+        }
+    }
+}
+
+/// What the generator knows of a site whose list is at work.
+struct Desk {
+    stations: usize,
+    kind: Kind,
+    /// Most labels rank between `rank` and `rank + spread`, and `rank` rises.
+    rank: usize,
+    spread: usize,
+}
+
+impl Desk {
+    fn new(dice: &mut Dice, stations: usize, kind: Kind) -> Desk {
+        Desk {
+            stations,
+            kind,
+            rank: 0,
+            spread: dice.pick(&[3, 8, 30, 200, 5000]),
+        }
+    }
+
+    fn label(&mut self, dice: &mut Dice) -> i64 {
+        if dice.percent(5) {
+            return self.kind.grade(dice);
+        }
+        if dice.percent(5) {
+            return self.kind.ranked(dice.below(self.kind.top_rank() + 1));
+        }
+        // As good as can be, for a station that may wait with a worse one.
+        if dice.percent(8) {
+            return self.kind.ranked(dice.below(3));
+        }
+        self.rank += dice.below(self.spread / 4 + 2);
+        if self.rank > self.kind.top_rank() {
+            self.rank = 0;
+        }
+        self.kind.ranked(self.rank + dice.below(self.spread))
+    }
+
+    /// A step that parts labels as close as these, or one at the bounds.
+    fn step(&self, dice: &mut Dice) -> i64 {
+        let near = dice.below(self.spread + 1);
+        match (self.kind, dice.below(10)) {
+            (Kind::Airtime, 0) => 4294967295,
+            (Kind::Airtime, 1) => 0,
+            (Kind::Chance, 0) => dice.pick(&[0, 1, 32768]),
+            (Kind::Chance, 1) => dice.pick(&[65536, 65537, 4294967295]),
+            (Kind::Margin, 0) => dice.pick(&[127, -128]),
+            (Kind::Margin, _) => self.kind.ranked(dice.below(256)),
+            (Kind::Airtime | Kind::Chance, _) => self.kind.ranked(near),
+        }
+    }
+
+    /// Mostly few buckets for labels as close as these, at times many or too many.
+    fn buckets(&self, dice: &mut Dice) -> (usize, usize) {
+        let width = 1 + dice.below(self.spread / 2);
+        let most = dice.pick(&[4, 8, 64]);
+        let count = 1 + dice.below(most);
+        match dice.below(14) {
+            0 => dice.pick(&[
+                (4294967295, 4294967295),
+                (4294967295, 0),
+                (4294967295, 4294967294),
+                (67108864, 4294967295),
+            ]),
+            1 => dice.pick(&[(1, 63), (2, 127), (1, 0), (1024, 65536)]),
+            2 => dice.pick(&[(0, 0), (0, 77), (1, 64), (2, 128), (67108863, 4294967295)]),
+            3 => (width, 63 * width + dice.below(2 * width)),
+            _ => (width, (count - 1) * width + dice.below(width)),
+        }
+    }
+
+    /// The words after `list`.
+    fn list(&self, dice: &mut Dice, name: &str) -> String {
+        match name {
+            "threshold" => format!("threshold {}", self.step(dice)),
+            "bucket" => {
+                let (width, span) = self.buckets(dice);
+                format!("bucket {width} {span}")
+            }
+            _ => name.to_string(),
+        }
+    }
+
+    /// A station of the net, seldom one beyond it, more seldom one beyond every list.
+    fn station(&self, dice: &mut Dice) -> usize {
+        match dice.below(100) {
+            0 => dice.pick(&[1024, 1025, 2048, 65535]),
+            1 | 2 => dice.pick(&[1023, 1022, 512]),
+            3..=6 => (self.stations + dice.below(3)).min(1023),
+            _ => dice.below(self.stations),
+        }
+    }
+
+    /// On a third of the lines, how many labels are handed over.
+    fn handed(&self, dice: &mut Dice) -> String {
+        if dice.percent(67) {
+            return String::new();
+        }
+        let all = self.stations;
+        let count = match dice.below(6) {
+            0 => 0,
+            1 => all,
+            2 => dice.pick(&[all + 1, 1024, 65535]),
+            _ => dice.below(all),
+        };
+        format!(" {count}")
+    }
+}
+
+impl Script {
+    /// A net without links.
+    fn bare_net(&mut self, stations: usize) {
+        self.even_net(&[(stations + 1, 0)], &[]);
+    }
+
+    fn words(&mut self, line: &str) {
+        let words: Vec<String> = line.split(' ').map(str::to_string).collect();
+        self.line(&words);
+    }
+
+    fn enter(&mut self, desk: &Desk) {
+        let station = desk.station(&mut self.dice);
+        let handed = desk.handed(&mut self.dice);
+        self.words(&format!("enter {station}{handed}"));
+    }
+
+    fn pick(&mut self, desk: &Desk) {
+        let handed = desk.handed(&mut self.dice);
+        self.words(&format!("pick{handed}"));
+    }
+
+    fn poke(&mut self, desk: &mut Desk) {
+        let index = if self.dice.percent(2) {
+            desk.stations
+        } else {
+            self.dice.below(desk.stations)
+        };
+        let label = desk.label(&mut self.dice);
+        self.words(&format!("poke label {index} {label}"));
+    }
+
+    fn choose_list(&mut self, desk: &Desk, name: &str) {
+        let words = desk.list(&mut self.dice, name);
+        self.words(&format!("list {words}"));
+    }
+
+    /// A line that changes nothing, or one byte of a good line made another.
+    fn list_garbage(&mut self) {
+        if self.dice.percent(60) {
+            let line = self.dice.pick(&[
+                "enter",
+                "enter x",
+                "enter 1 2 3",
+                "enter 65536",
+                "pick -1",
+                "pick 0 0",
+                "empty 1",
+                "waiting 1",
+                "list",
+                "list bucket 1",
+                "list threshold",
+                "list first-in 1",
+                "list threshold 4294967296",
+                "poke label 1",
+                "poke label 1 4294967296",
+                "poke label 65535 0",
+                "kind hops",
+                "net 0 1 /",
+                "path",
+            ]);
+            self.text(line);
+        } else {
+            let lines = ["enter 0", "pick 1", "empty", "waiting", "poke label 0 0"];
+            let mut line = self.dice.pick(&lines).as_bytes().to_vec();
+            let place = self.dice.below(line.len());
+            let byte = self.dice.below(256) as u8;
+            line[place] = if byte == b'\n' { 0 } else { byte };
+            self.bytes.extend_from_slice(&line);
+        }
+        self.text("\n");
+    }
+
+    /// Lines over one list, in turns of more entries and of more picks.
+    fn row(&mut self, desk: &mut Desk, name: &str, turns: usize) {
+        self.choose_list(desk, name);
+        for turn in 0..turns {
+            let (enters, picks) = if turn % 2 == 0 { (55, 10) } else { (10, 60) };
+            for _ in 0..3 + self.dice.below(desk.stations.min(20) + 3) {
+                match self.dice.below(100) {
+                    part if part < enters => self.enter(desk),
+                    part if part < enters + picks => self.pick(desk),
+                    part if part < enters + picks + 22 => self.poke(desk),
+                    part if part < enters + picks + 25 => self.text("waiting\n"),
+                    part if part < enters + picks + 27 => self.list_garbage(),
+                    part if part < enters + picks + 29 => {
+                        self.text("empty\n");
+                        desk.rank = 0;
+                    }
+                    _ if self.dice.percent(5) => {
+                        let other = self.dice.pick(&LISTS);
+                        self.choose_list(desk, other);
+                        self.enter(desk);
+                        self.choose_list(desk, name);
+                    }
+                    _ => self.enter(desk),
+                }
+            }
+        }
+    }
+
+    /// Lines far longer than any buffer, and words with odd blanks.
+    pub fn long_list_lines(&mut self) {
+        let zeros = "0".repeat(5000);
+        self.text("\n# Long words, many words, odd blanks.\nnet 0 0 0 0 /\n");
+        self.text(&format!("enter {zeros}2 {zeros}\npick {zeros}9\n"));
+        self.text(&format!("poke label {zeros}1 {zeros}7\nlabels\n"));
+        self.text(&format!("enter {}\nwaiting\n", "9".repeat(5000)));
+        for command in ["enter", "pick", "empty", "poke label", "list bucket"] {
+            self.text(command);
+            self.many(&[(5000, 1)]);
+            self.text("\n");
+        }
+        self.text("\tenter\t1\r\n  enter   0  9 \r\r\n\rwaiting\t\n \tpick \t 9\r\npick\r\n");
+        self.text("list\tbucket\r10 \t 29\r\npoke\tlabel\r1  15\n labels \r\nempty\t\n");
+        self.text("list first-in\x0b\npick\x0c\nenter \u{a0}1\nwaiting\0\n");
+    }
+
+    /// Every list over every kind, on nets of few stations, and on some of many.
+    pub fn list_rows(&mut self, rounds: usize) {
+        for round in 0..rounds {
+            for kind in KINDS {
+                for name in LISTS {
+                    let stations = if round == 0 && self.dice.percent(40) {
+                        self.dice.pick(&[40, 100, 300])
+                    } else {
+                        3 + self.dice.below(10)
+                    };
+                    if self.dice.percent(80) {
+                        self.bare_net(stations);
+                    } else {
+                        let net = Net::random(&mut self.dice, stations, 5);
+                        self.line(&net.words());
+                    }
+                    self.words(&format!("kind {}", kind.name()));
+                    let mut desk = Desk::new(&mut self.dice, stations, kind);
+                    for _ in 0..stations {
+                        self.poke(&mut desk);
+                    }
+                    self.row(&mut desk, name, 12);
+                    let other = self.dice.pick(&["threshold", "threshold", "bucket"]);
+                    self.row(&mut desk, other, 8);
+                    // The list that a new kind begins with.
+                    self.words(&format!("kind {}", kind.name()));
+                    for _ in 0..5 {
+                        self.enter(&desk);
+                        self.enter(&desk);
+                        self.pick(&desk);
+                    }
+                }
+            }
+        }
+    }
+
+    /// So many entries and picks on few stations that a queue of 1,024 places comes round.
+    pub fn long_rows(&mut self, picks: usize) {
+        const STATIONS: usize = 6;
+        for words in [
+            "first-in",
+            "two-ended",
+            "small-label",
+            "threshold 9",
+            "bucket 4 31",
+        ] {
+            self.bare_net(STATIONS);
+            self.text(&format!("list {words}\n"));
+            let labelled = !matches!(words, "first-in" | "two-ended");
+            for round in 0..picks {
+                // Two entries to a pick, as about half of them find their station waiting.
+                for _ in 0..2 {
+                    let station = self.dice.below(STATIONS);
+                    if labelled && self.dice.percent(90) {
+                        // Mostly worse than all before, so that it goes to a bottom.
+                        let label = 25 * round + self.dice.below(60);
+                        self.text(&format!("poke label {station} {label}\n"));
+                    }
+                    self.text(&format!("enter {station}\n"));
+                }
+                self.text("pick\n");
+                if words == "two-ended" && self.dice.percent(10) {
+                    self.text("empty\n");
+                }
+            }
+            self.text("waiting\n");
+        }
+    }
+
+    /// All 1,024 stations wait at once, and again after some picks.
+    pub fn full_lists(&mut self) {
+        let airtime = [
+            "first-in",
+            "two-ended",
+            "small-label",
+            "threshold 500",
+            "bucket 100 4999",
+        ];
+        let margin = ["small-label", "threshold 90", "bucket 9 255"];
+        self.bare_net(1024);
+        for (kind, lists) in [(Kind::Airtime, &airtime[..]), (Kind::Margin, &margin)] {
+            self.words(&format!("kind {}", kind.name()));
+            let spread = kind.top_rank().min(4999) + 1;
+            for station in 0..1024 {
+                let label = kind.ranked(self.dice.below(spread));
+                self.text(&format!("poke label {station} {label}\n"));
+            }
+            for words in lists {
+                self.text(&format!("list {words}\n"));
+                self.fill("");
+                for _ in 0..300 {
+                    self.text("pick\n");
+                }
+                self.fill(" 700");
+                for _ in 0..30 {
+                    let (station, label) = (self.dice.below(1024), self.dice.below(5));
+                    let label = kind.ranked(label);
+                    self.text(&format!("poke label {station} {label}\n"));
+                }
+                for _ in 0..400 {
+                    self.text("pick 600\n");
+                }
+                self.text("waiting\n");
+            }
+        }
+    }
+
+    /// Every station enters, none in the order of its number, and one too many.
+    fn fill(&mut self, handed: &str) {
+        // Odd, so that its multiples below 1,024 meet every station once.
+        let stride = 2 * self.dice.below(512) + 1;
+        for place in 0..1024 {
+            self.text(&format!("enter {}{handed}\n", place * stride % 1024));
+        }
+        self.text("enter 1024\nenter 0\nenter 1023\nwaiting\n");
+    }
+}
