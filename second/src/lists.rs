@@ -3,6 +3,7 @@
 
 mod bucket;
 mod first_in;
+mod queue;
 mod small_label;
 mod threshold;
 mod two_ended;
@@ -10,6 +11,10 @@ mod two_ended;
 use crate::faults::Refusal;
 use crate::kinds::Kind;
 use crate::net::MOST_STATIONS;
+use first_in::FirstIn;
+use queue::Queue;
+use small_label::SmallLabel;
+use two_ended::TwoEnded;
 
 /// Which list, with what it is made from.
 #[derive(Clone, Copy, Debug, PartialEq)]
@@ -64,9 +69,9 @@ pub struct List {
 impl List {
     pub fn new(kind: Kind, design: Design) -> Result<List, Refusal> {
         let order: Box<dyn Order> = match design {
-            Design::FirstIn => Box::new(first_in::FirstIn::default()),
-            Design::TwoEnded => Box::new(two_ended::TwoEnded::default()),
-            Design::SmallLabel => Box::new(small_label::SmallLabel::new(kind)),
+            Design::FirstIn => Box::new(Queue::new(FirstIn)),
+            Design::TwoEnded => Box::new(Queue::new(TwoEnded::default())),
+            Design::SmallLabel => Box::new(Queue::new(SmallLabel(kind))),
             Design::Threshold { step } => {
                 Box::new(threshold::Threshold::new(kind, kind.make(step)?))
             }
@@ -78,7 +83,7 @@ impl List {
     /// The list that a site begins with.
     pub fn first_in() -> List {
         List {
-            order: Box::new(first_in::FirstIn::default()),
+            order: Box::new(Queue::new(FirstIn)),
         }
     }
 

@@ -1,33 +1,13 @@
 //! First in, first picked.
 
-use super::Order;
+use super::queue::Rule;
 use std::collections::VecDeque;
 
-#[derive(Default)]
-pub struct FirstIn {
-    /// Front is the top.
-    queue: VecDeque<usize>,
-}
+pub struct FirstIn;
 
-impl Order for FirstIn {
-    fn empty(&mut self) {
-        self.queue.clear();
-    }
-
-    fn holds(&self, station: usize) -> bool {
-        self.queue.contains(&station)
-    }
-
-    fn add(&mut self, station: usize, _labels: &[i64]) {
-        self.queue.push_back(station);
-    }
-
-    fn pick(&mut self, _labels: &[i64]) -> Option<usize> {
-        self.queue.pop_front()
-    }
-
-    fn waiting(&self) -> usize {
-        self.queue.len()
+impl Rule for FirstIn {
+    fn leads(&mut self, _station: usize, _queue: &VecDeque<usize>, _labels: &[i64]) -> bool {
+        false
     }
 }
 

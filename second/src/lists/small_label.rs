@@ -1,56 +1,19 @@
 //! A station that is no worse than the top one goes to the top, any other to the bottom.
 
-use super::Order;
+use super::queue::Rule;
 use crate::kinds::Kind;
 use std::collections::VecDeque;
 
-pub struct SmallLabel {
-    kind: Kind,
-    /// Front is the top.
-    queue: VecDeque<usize>,
-}
+pub struct SmallLabel(pub Kind);
 
-impl SmallLabel {
-    pub fn new(kind: Kind) -> SmallLabel {
-        SmallLabel {
-            kind,
-            queue: VecDeque::new(),
-        }
-    }
-
-    /// Whether a station goes to the top. Without both labels there is nothing to compare.
-    fn leads(&self, station: usize, labels: &[i64]) -> bool {
-        let rival = self.queue.front().and_then(|&top| labels.get(top));
+impl Rule for SmallLabel {
+    // Without both labels there is nothing to compare.
+    fn leads(&mut self, station: usize, queue: &VecDeque<usize>, labels: &[i64]) -> bool {
+        let rival = queue.front().and_then(|&top| labels.get(top));
         match (labels.get(station), rival) {
-            (Some(&own), Some(&rival)) => self.kind.at_least_as_good(own, rival),
+            (Some(&own), Some(&rival)) => self.0.at_least_as_good(own, rival),
             _ => false,
         }
-    }
-}
-
-impl Order for SmallLabel {
-    fn empty(&mut self) {
-        self.queue.clear();
-    }
-
-    fn holds(&self, station: usize) -> bool {
-        self.queue.contains(&station)
-    }
-
-    fn add(&mut self, station: usize, labels: &[i64]) {
-        if self.leads(station, labels) {
-            self.queue.push_front(station);
-        } else {
-            self.queue.push_back(station);
-        }
-    }
-
-    fn pick(&mut self, _labels: &[i64]) -> Option<usize> {
-        self.queue.pop_front()
-    }
-
-    fn waiting(&self) -> usize {
-        self.queue.len()
     }
 }
 

@@ -1,41 +1,25 @@
 //! A station's first entry goes to the bottom, a later one to the top.
 
-use super::Order;
+use super::queue::Rule;
 use std::collections::VecDeque;
 
 #[derive(Default)]
 pub struct TwoEnded {
-    /// Front is the top.
-    queue: VecDeque<usize>,
     /// Who has entered since the last emptying, waiting or not.
     entered: Vec<usize>,
 }
 
-impl Order for TwoEnded {
-    fn empty(&mut self) {
-        self.queue.clear();
-        self.entered.clear();
-    }
-
-    fn holds(&self, station: usize) -> bool {
-        self.queue.contains(&station)
-    }
-
-    fn add(&mut self, station: usize, _labels: &[i64]) {
-        if self.entered.contains(&station) {
-            self.queue.push_front(station);
-        } else {
+impl Rule for TwoEnded {
+    fn leads(&mut self, station: usize, _queue: &VecDeque<usize>, _labels: &[i64]) -> bool {
+        let back = self.entered.contains(&station);
+        if !back {
             self.entered.push(station);
-            self.queue.push_back(station);
         }
+        back
     }
 
-    fn pick(&mut self, _labels: &[i64]) -> Option<usize> {
-        self.queue.pop_front()
-    }
-
-    fn waiting(&self) -> usize {
-        self.queue.len()
+    fn forget(&mut self) {
+        self.entered.clear();
     }
 }
 
