@@ -202,11 +202,7 @@ impl Script {
             self.text(line);
         } else {
             let lines = ["enter 0", "pick 1", "empty", "waiting", "poke label 0 0"];
-            let mut line = self.dice.pick(&lines).as_bytes().to_vec();
-            let place = self.dice.below(line.len());
-            let byte = self.dice.below(256) as u8;
-            line[place] = if byte == b'\n' { 0 } else { byte };
-            self.bytes.extend_from_slice(&line);
+            self.damaged(&lines);
         }
         self.text("\n");
     }

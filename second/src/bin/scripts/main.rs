@@ -867,14 +867,19 @@ impl Script {
                     "kind chance",
                     "kind margin",
                 ];
-                let mut line = self.dice.pick(&lines).as_bytes().to_vec();
-                let place = self.dice.below(line.len());
-                let byte = self.dice.below(256) as u8;
-                line[place] = if byte == b'\n' { 0 } else { byte };
-                self.bytes.extend_from_slice(&line);
+                self.damaged(&lines);
             }
         }
         self.text("\n");
+    }
+
+    /// One of these lines, with one of its bytes another.
+    fn damaged(&mut self, lines: &[&str]) {
+        let mut line = self.dice.pick(lines).as_bytes().to_vec();
+        let place = self.dice.below(line.len());
+        let byte = self.dice.below(256) as u8;
+        line[place] = if byte == b'\n' { 0 } else { byte };
+        self.bytes.extend_from_slice(&line);
     }
 
     /// Some lines over an opened net.
