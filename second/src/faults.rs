@@ -1,5 +1,6 @@
 //! What a line answers when it is not carried out.
 
+use crate::memory::Part;
 use std::fmt;
 
 /// A call of the planner refuses. The place is 0 where none is named.
@@ -21,15 +22,12 @@ pub enum Why {
         high: i64,
     },
     NoSlash,
-    NoKind,
-    ListShape,
-    EnterShape,
-    PickShape,
-    PokeShape,
-    /// The named command stands alone on its line.
-    NoWords(&'static str),
-    NoLabel {
-        labels: usize,
+    /// The words are not those that the command takes, which are told.
+    Usage(&'static str),
+    /// An index at the end of a list or beyond.
+    Beyond {
+        part: Part,
+        count: usize,
     },
     NotAPath(Gap),
     OutOfMemory,
@@ -86,16 +84,8 @@ impl fmt::Display for Why {
                 write!(f, "word {place} is not a number from {low} to {high}")
             }
             Why::NoSlash => write!(f, "net needs one / between starts and heads"),
-            Why::NoKind => write!(f, "kind takes one of airtime, chance, margin"),
-            Why::ListShape => write!(
-                f,
-                "list takes first-in, two-ended, small-label, threshold <step> or bucket <width> <span>"
-            ),
-            Why::EnterShape => write!(f, "enter takes <station> [handed]"),
-            Why::PickShape => write!(f, "pick takes [handed]"),
-            Why::PokeShape => write!(f, "poke takes label <index> <value>"),
-            Why::NoWords(command) => write!(f, "{command} takes no words"),
-            Why::NoLabel { labels } => write!(f, "there are {labels} labels"),
+            Why::Usage(usage) => write!(f, "{usage}"),
+            Why::Beyond { part, count } => write!(f, "there are {count} {}", part.name()),
             Why::NotAPath(gap) => write!(f, "not a path: {gap}"),
             Why::OutOfMemory => write!(f, "out of memory"),
         }

@@ -88,6 +88,10 @@ impl Kind {
         }
     }
 
+    pub fn better(self, label: i64, other: i64) -> bool {
+        label != other && self.at_least_as_good(label, other)
+    }
+
     /// How far a label is from the best one; it fits 32 bits.
     pub fn rank(self, label: i64) -> i64 {
         match self {
@@ -161,6 +165,9 @@ mod tests {
             assert!(kind.at_least_as_good(better, worse));
             assert!(kind.at_least_as_good(worse, worse));
             assert!(!kind.at_least_as_good(worse, better));
+            assert!(kind.better(better, worse));
+            assert!(!kind.better(worse, worse));
+            assert!(!kind.better(worse, better));
         }
     }
 

@@ -1,8 +1,14 @@
 //! The second planner: reads a site script and writes one answer line for each of its commands.
 
+mod book;
+mod commands;
+mod engine;
+mod entries;
 mod faults;
+mod guards;
 mod kinds;
 mod lists;
+mod memory;
 mod net;
 mod planner;
 mod reading;
@@ -60,14 +66,30 @@ mod tests {
         String::from_utf8(output).expect("answers are text")
     }
 
+    pub fn check(script: &str, expected: &[&str]) {
+        let answers = answers(script.as_bytes());
+        assert_eq!(answers.lines().collect::<Vec<_>>(), expected);
+    }
+
+    /// Checks the answers to a script after an opening whose own answers do not matter.
+    pub fn check_from(opening: &str, script: &str, expected: &[&str]) {
+        let answers = self::answers(format!("{opening}{script}").as_bytes());
+        let opened = self::answers(opening.as_bytes()).lines().count();
+        assert_eq!(answers.lines().skip(opened).collect::<Vec<_>>(), expected);
+    }
+
     #[test]
     fn example_of_the_language() {
-        let script =
-            b"net 0 2 3 5 5 / 1 2 3 1 3\ngrades 4 1 1 2 5\npath 1 3 2\npath 1 2\nnet 0 2 1 / 0\n";
-        let expected = "net ok 4 5\ngrades 5\npath 4\n\
-            error line 4: not a path: link 2 does not begin where link 1 ends\n\
-            refused 3 place 0 layer net\n";
-        assert_eq!(answers(script), expected);
+        check(
+            "net 0 2 3 5 5 / 1 2 3 1 3\ngrades 4 1 1 2 5\npath 1 3 2\npath 1 2\nnet 0 2 1 / 0\n",
+            &[
+                "net ok 4 5",
+                "grades 5",
+                "path 4",
+                "error line 4: not a path: link 2 does not begin where link 1 ends",
+                "refused 3 place 0 layer net",
+            ],
+        );
     }
 
     #[test]

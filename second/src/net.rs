@@ -1,6 +1,7 @@
 //! The net: stations and their links as a forward star.
 
 use crate::faults::Refusal;
+use std::ops::Range;
 
 pub const MOST_STATIONS: usize = 1024;
 pub const MOST_LINKS: usize = 4096;
@@ -47,6 +48,15 @@ impl Net {
 
     pub fn links(&self) -> usize {
         self.heads.len()
+    }
+
+    /// The links with that station as their tail.
+    pub fn links_of(&self, station: usize) -> Range<usize> {
+        self.starts[station]..self.starts[station + 1]
+    }
+
+    pub fn head(&self, link: usize) -> usize {
+        self.heads[link]
     }
 
     /// Tail and head of a link, or none if there is no such link.
@@ -115,5 +125,7 @@ mod tests {
         assert_eq!(net.ends(1), Some((1, 1)));
         assert_eq!(net.ends(2), Some((3, 0)));
         assert_eq!(net.ends(3), None);
+        assert_eq!((net.links_of(0), net.links_of(1)), (0..0, 0..2));
+        assert_eq!((net.links_of(3), net.head(2)), (2..3, 0));
     }
 }

@@ -3,6 +3,7 @@
 use crate::faults::{Fault, Why};
 use crate::kinds::Kind;
 use crate::lists::Design;
+use crate::memory::Part;
 use crate::net::Net;
 use crate::script::{self, Word, Words};
 
@@ -29,30 +30,29 @@ pub fn net(words: Words) -> Result<Net, Fault> {
     Ok(Net::new(starts, heads)?)
 }
 
-pub fn kind(mut words: Words) -> Result<Kind, Why> {
-    match (words.next(), words.next()) {
-        (Some(name), None) => Kind::named(name.bytes).ok_or(Why::NoKind),
-        _ => Err(Why::NoKind),
-    }
+pub fn kind(words: Words) -> Result<Kind, Why> {
+    let usage = "kind takes one of airtime, chance, margin";
+    let [name] = exactly(words, usage)?;
+    Kind::named(name.bytes).ok_or(Why::Usage(usage))
 }
 
+const LIST: &str =
+    "list takes first-in, two-ended, small-label, threshold <step> or bucket <width> <span>";
+
 pub fn list(kind: Kind, mut words: Words) -> Result<Design, Why> {
-    let name = words.next().ok_or(Why::ListShape)?;
+    let name = words.next().ok_or(Why::Usage(LIST))?;
     match (name.bytes, words.next(), words.next(), words.next()) {
         (b"first-in", None, _, _) => Ok(Design::FirstIn),
         (b"two-ended", None, _, _) => Ok(Design::TwoEnded),
         (b"small-label", None, _, _) => Ok(Design::SmallLabel),
-        (b"threshold", Some(step), None, _) => {
-            let (low, high) = kind.range();
-            Ok(Design::Threshold {
-                step: step.number(low, high)?,
-            })
-        }
+        (b"threshold", Some(step), None, _) => Ok(Design::Threshold {
+            step: grade(kind, step)?,
+        }),
         (b"bucket", Some(width), Some(span), None) => Ok(Design::Bucket {
             width: width.number(0, TOP_RANK)?,
             span: span.number(0, TOP_RANK)?,
         }),
-        _ => Err(Why::ListShape),
+        _ => Err(Why::Usage(LIST)),
     }
 }
 
@@ -60,7 +60,7 @@ pub fn list(kind: Kind, mut words: Words) -> Result<Design, Why> {
 pub fn enter(mut words: Words) -> Result<(usize, Option<usize>), Why> {
     match (words.next(), words.next(), words.next()) {
         (Some(station), handed, None) => Ok((count(station)?, handed.map(count).transpose()?)),
-        _ => Err(Why::EnterShape),
+        _ => Err(Why::Usage("enter takes <station> [handed]")),
     }
 }
 
@@ -68,32 +68,49 @@ pub fn enter(mut words: Words) -> Result<(usize, Option<usize>), Why> {
 pub fn pick(mut words: Words) -> Result<Option<usize>, Why> {
     match (words.next(), words.next()) {
         (handed, None) => handed.map(count).transpose(),
-        _ => Err(Why::PickShape),
+        _ => Err(Why::Usage("pick takes [handed]")),
     }
 }
 
-/// The index of a label and its new value.
-pub fn poke(kind: Kind, mut words: Words) -> Result<(usize, i64), Why> {
-    match (words.next(), words.next(), words.next(), words.next()) {
-        (Some(what), Some(index), Some(value), None) if what.bytes == b"label" => {
-            let index = count(index)?;
-            let (low, high) = kind.range();
-            Ok((index, kind.read(value.number(low, high)?)))
-        }
-        _ => Err(Why::PokeShape),
-    }
+/// A part of memory, an index in it and the new value there.
+pub fn poke(kind: Kind, words: Words) -> Result<(Part, usize, i64), Why> {
+    let usage = "poke takes label, entry or grade, then <index> <value>";
+    let [part, index, value] = exactly(words, usage)?;
+    let part = Part::of_one(part.bytes).ok_or(Why::Usage(usage))?;
+    let index = count(index)?;
+    let value = match part {
+        Part::Labels | Part::Grades => kind.read(grade(kind, value)?),
+        Part::Entries => value.number(0, TOP)?,
+    };
+    Ok((part, index, value))
 }
 
-/// The command stands alone.
-pub fn nothing(command: &'static str, mut words: Words) -> Result<(), Why> {
-    match words.next() {
-        Some(_) => Err(Why::NoWords(command)),
-        None => Ok(()),
-    }
+/// A part of memory, and how many numbers it is to have.
+pub fn resize(words: Words) -> Result<(Part, usize), Why> {
+    let usage = "resize takes labels, entries or grades, then <count>";
+    let [part, size] = exactly(words, usage)?;
+    let part = Part::named(part.bytes).ok_or(Why::Usage(usage))?;
+    Ok((part, count(size)?))
 }
 
-fn count(word: Word) -> Result<usize, Why> {
+/// Just so many words, else the usage.
+pub fn exactly<'a, const N: usize>(
+    words: Words<'a>,
+    usage: &'static str,
+) -> Result<[Word<'a>; N], Why> {
+    let words: Vec<Word> = words.take(N + 1).collect();
+    words.try_into().map_err(|_| Why::Usage(usage))
+}
+
+/// A station, a link, an entry or a count.
+pub fn count(word: Word) -> Result<usize, Why> {
     Ok(word.number(0, TOP)? as usize)
+}
+
+/// A number that a list of grades may hold. What grade it is depends on its use.
+pub fn grade(kind: Kind, word: Word) -> Result<i64, Why> {
+    let (low, high) = kind.range();
+    word.number(low, high)
 }
 
 #[cfg(test)]
@@ -137,7 +154,7 @@ mod tests {
             b"bucket x",
             b"bucket 1 2 x",
         ] {
-            assert_eq!(list(words), Err(Why::ListShape), "{words:?}");
+            assert_eq!(list(words), Err(Why::Usage(LIST)), "{words:?}");
         }
         // No command stands before these words, so the name is word 1.
         assert_eq!(list(b"threshold -1"), Err(not_a_number(2, 4294967295)));
@@ -146,7 +163,7 @@ mod tests {
     }
 
     #[test]
-    fn steps_and_pokes_are_read_by_the_kind() {
+    fn steps_are_read_by_the_kind() {
         let step = |kind, words: &'static [u8]| list(kind, Words::of(words));
         assert_eq!(
             step(Kind::Margin, b"threshold -128"),
@@ -158,16 +175,53 @@ mod tests {
             step(Kind::Chance, b"threshold 65537"),
             Ok(Design::Threshold { step: 65537 })
         );
+    }
+
+    #[test]
+    fn pokes_are_read_by_their_part_and_the_kind() {
+        use Part::{Entries, Grades, Labels};
         let poke = |kind, words: &'static [u8]| poke(kind, Words::of(words));
-        assert_eq!(poke(Kind::Margin, b"label 7 -128"), Ok((7, -128)));
-        assert_eq!(poke(Kind::Chance, b"label 7 65537"), Ok((7, 65536)));
-        assert_eq!(poke(Kind::Airtime, b"label 7 65537"), Ok((7, 65537)));
+        assert_eq!(poke(Kind::Margin, b"label 7 -128"), Ok((Labels, 7, -128)));
+        assert_eq!(poke(Kind::Chance, b"label 7 65537"), Ok((Labels, 7, 65536)));
+        assert_eq!(
+            poke(Kind::Airtime, b"label 7 65537"),
+            Ok((Labels, 7, 65537))
+        );
+        assert_eq!(poke(Kind::Chance, b"grade 7 65537"), Ok((Grades, 7, 65536)));
+        assert_eq!(poke(Kind::Margin, b"grade 7 -1"), Ok((Grades, 7, -1)));
+        assert_eq!(
+            poke(Kind::Margin, b"entry 7 65535"),
+            Ok((Entries, 7, 65535))
+        );
         let words = b"label 65536 x";
         assert_eq!(poke(Kind::Chance, words), Err(not_a_number(2, 65535)));
-        let words = b"label 65535 -1";
+        let words = b"grade 65535 -1";
         assert_eq!(poke(Kind::Chance, words), Err(not_a_number(3, 4294967295)));
-        for words in [&b""[..], b"label", b"label 1", b"grade 1 2", b"label 1 2 3"] {
-            assert_eq!(poke(Kind::Airtime, words), Err(Why::PokeShape));
+        let words = b"entry 65535 -1";
+        assert_eq!(poke(Kind::Margin, words), Err(not_a_number(3, 65535)));
+        let usage = Why::Usage("poke takes label, entry or grade, then <index> <value>");
+        for words in [
+            &b""[..],
+            b"label",
+            b"label 1",
+            b"labels 1 2",
+            b"x y z",
+            b"label x 2 3",
+        ] {
+            assert_eq!(poke(Kind::Airtime, words).as_ref(), Err(&usage));
+        }
+    }
+
+    #[test]
+    fn what_is_resized() {
+        let resize = |words: &'static [u8]| resize(Words::of(words));
+        assert_eq!(resize(b"labels 0"), Ok((Part::Labels, 0)));
+        assert_eq!(resize(b"entries 65535"), Ok((Part::Entries, 65535)));
+        assert_eq!(resize(b"grades 7"), Ok((Part::Grades, 7)));
+        assert_eq!(resize(b"grades 65536"), Err(not_a_number(2, 65535)));
+        let usage = Why::Usage("resize takes labels, entries or grades, then <count>");
+        for words in [&b""[..], b"labels", b"label 1", b"x y", b"labels x 2"] {
+            assert_eq!(resize(words).as_ref(), Err(&usage));
         }
     }
 
@@ -176,23 +230,25 @@ mod tests {
         let enter = |words: &'static [u8]| enter(Words::of(words));
         assert_eq!(enter(b"65535"), Ok((65535, None)));
         assert_eq!(enter(b"3 65535"), Ok((3, Some(65535))));
-        assert_eq!(enter(b""), Err(Why::EnterShape));
-        assert_eq!(enter(b"x 2 3"), Err(Why::EnterShape));
+        let usage = Why::Usage("enter takes <station> [handed]");
+        assert_eq!(enter(b"").as_ref(), Err(&usage));
+        assert_eq!(enter(b"x 2 3").as_ref(), Err(&usage));
         assert_eq!(enter(b"65536 x"), Err(not_a_number(1, 65535)));
         assert_eq!(enter(b"3 65536"), Err(not_a_number(2, 65535)));
         let pick = |words: &'static [u8]| pick(Words::of(words));
         assert_eq!(pick(b""), Ok(None));
         assert_eq!(pick(b"0"), Ok(Some(0)));
-        assert_eq!(pick(b"x y"), Err(Why::PickShape));
+        assert_eq!(pick(b"x y"), Err(Why::Usage("pick takes [handed]")));
         assert_eq!(pick(b"65536"), Err(not_a_number(1, 65535)));
     }
 
     #[test]
-    fn commands_that_stand_alone() {
-        assert_eq!(nothing("empty", Words::of(b" \t")), Ok(()));
-        assert_eq!(
-            nothing("empty", Words::of(b"x")),
-            Err(Why::NoWords("empty"))
-        );
+    fn so_many_words_and_no_others() {
+        let usage = Why::Usage("work takes <allowed>");
+        let one = |words: &'static [u8]| exactly(Words::of(words), "work takes <allowed>");
+        assert_eq!(one(b" 7\t").map(|[word]| word.bytes), Ok(&b"7"[..]));
+        assert_eq!(one(b" \t").map(|[_]| ()).as_ref(), Err(&usage));
+        assert_eq!(one(b"x y").map(|[_]| ()).as_ref(), Err(&usage));
+        assert_eq!(exactly(Words::of(b" \t"), "labels takes no words"), Ok([]));
     }
 }

@@ -1,48 +1,59 @@
 //! The site that a script works on.
 
+use crate::entries::UNLABELLED;
 use crate::faults::{Gap, Refusal, Why};
 use crate::kinds::Kind;
 use crate::lists::{Design, Entered, List};
 use crate::net::Net;
 use crate::script;
+use std::iter;
 
-/// A net with its grades, its labels and the stations that wait.
+/// A net and a book with its memory.
 pub struct Site {
     pub net: Net,
     pub kind: Kind,
     /// One per link only if the script wrote so many.
     pub grades: Vec<i64>,
-    /// One per station.
+    /// One per station unless the script made them more or fewer. So are the entries.
     pub labels: Vec<i64>,
+    pub entries: Vec<usize>,
     pub list: List,
+    /// None until a start is accepted.
+    pub gateway: Option<usize>,
 }
 
 impl Site {
+    /// A new book of airtimes over the net.
     pub fn new(net: Net) -> Result<Site, Why> {
         let kind = Kind::Airtime;
-        let grades = zeros(kind, net.links())?;
-        let labels = starts(kind, net.stations())?;
-        let list = List::first_in();
+        let (links, stations) = (net.links(), net.stations());
         Ok(Site {
             net,
             kind,
-            grades,
-            labels,
-            list,
+            grades: many(kind.read(0), links)?,
+            labels: many(kind.start(), stations)?,
+            entries: many(UNLABELLED, stations)?,
+            list: List::first_in(),
+            gateway: None,
         })
     }
 
+    /// A new book of that kind over the same net.
     pub fn set_kind(&mut self, kind: Kind) -> Result<(), Why> {
         // First what may fail: an error changes nothing.
-        let grades = zeros(kind, self.net.links())?;
-        let labels = starts(kind, self.net.stations())?;
+        let grades = many(kind.read(0), self.net.links())?;
+        let labels = many(kind.start(), self.net.stations())?;
+        let entries = many(UNLABELLED, self.net.stations())?;
         self.kind = kind;
         self.grades = grades;
         self.labels = labels;
+        self.entries = entries;
         self.list = List::first_in();
+        self.gateway = None;
         Ok(())
     }
 
+    /// Another list, empty. The book goes on with it.
     pub fn set_list(&mut self, design: Design) -> Result<(), Refusal> {
         self.list = List::new(self.kind, design)?;
         Ok(())
@@ -56,13 +67,6 @@ impl Site {
     /// The list gives a station, and the first so many labels are handed over.
     pub fn pick(&mut self, count: Option<usize>) -> Option<usize> {
         self.list.pick(handed(&self.labels, count))
-    }
-
-    pub fn poke_label(&mut self, index: usize, value: i64) -> Result<(), Why> {
-        let labels = self.labels.len();
-        let label = self.labels.get_mut(index).ok_or(Why::NoLabel { labels })?;
-        *label = value;
-        Ok(())
     }
 
     /// The start label carried over the links in their order.
@@ -90,14 +94,8 @@ impl Site {
     }
 }
 
-/// Grade 0 for every link.
-fn zeros(kind: Kind, links: usize) -> Result<Vec<i64>, Why> {
-    script::list(std::iter::repeat(kind.read(0)).take(links))
-}
-
-/// The start label for every station.
-fn starts(kind: Kind, stations: usize) -> Result<Vec<i64>, Why> {
-    script::list(std::iter::repeat(kind.start()).take(stations))
+fn many<T: Copy>(value: T, count: usize) -> Result<Vec<T>, Why> {
+    script::list(iter::repeat(value).take(count))
 }
 
 /// The first so many labels, or all.

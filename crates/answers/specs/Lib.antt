@@ -1,3 +1,4 @@
 pub mod Verbs
+pub mod Listing
 pub mod Texts
 pub mod Outcomes

@@ -18,6 +18,10 @@ answered a m = record { says = Ok a; leaves = m }
 abbrev pub Does : {M : Type 0} → Outcome M → Result Answer Trouble → M → Type 0
 Does o r n = (r ≡ o.says) × (n ≡ o.leaves)
 
--- the same, or there was not enough memory and nothing has changed
+-- there was not enough memory, and nothing has changed
+abbrev pub NoMemory : {M : Type 0} → M → Result Answer Trouble → M → Type 0
+NoMemory m r n = (r ≡ Err Memory) × (n ≡ m)
+
+-- the answer and what is left are those of the outcome, or there was not enough memory
 abbrev pub Came : {M : Type 0} → Outcome M → M → Result Answer Trouble → M → Type 0
-Came o m r n = ((r ≡ Err Memory) × (n ≡ m)) ⊎ Does o r n
+Came o m r n = NoMemory m r n ⊎ Does o r n

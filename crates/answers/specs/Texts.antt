@@ -1,14 +1,16 @@
 -- The text of answers and troubles.
-use Rattle.std.specs.Prelude.{ℕ, List, ◌++◌, Some, None, codes, decimal, Option}
+use Rattle.std.specs.Prelude.{ℕ, List, ◌++◌, length, Some, None, codes, decimal, Option}
 use Rattle.std.specs.Fmt.{signed_decimal}
 use Rattle.refusals.specs.Texts.{told_text}
 use Rattle.lists.specs.declared.list.Entered.{Entered}
 use Rattle.lists.specs.declared.list.Entered.TheVariants.{New, Waiting}
 use Rattle.choice.specs.Names.{list_word}
+use Rattle.answers.specs.Listing.{spaced}
 use Rattle.answers.specs.declared.answer.Answer.{Answer}
 use Rattle.answers.specs.declared.answer.Answer.TheVariants as answer
 use Rattle.answers.specs.declared.answer.Label.{Label}
 use Rattle.answers.specs.declared.answer.Label.TheVariants as label
+use Rattle.answers.specs.declared.answer.Reached.{Reached}
 use Rattle.answers.specs.declared.trouble.Bounds.{Bounds}
 use Rattle.answers.specs.declared.trouble.Bounds.TheVariants.{Short, Long, Decibels}
 use Rattle.answers.specs.declared.trouble.Trouble.{Trouble}
@@ -43,13 +45,25 @@ abbrev pub picked_text : Option ℕ → List ℕ
 picked_text None = codes "pick none"
 picked_text (Some x) = codes "pick " ++ decimal x
 
+abbrev pub asked_text : Option Reached → ℕ → List ℕ
+asked_text None n = codes "ask none " ++ decimal n
+asked_text (Some r) n = codes "ask " ++ (label_text r.label ++ (codes " " ++ (decimal r.entry ++ (codes " " ++ decimal n))))
+
 abbrev pub answer_text : Answer → List ℕ
 answer_text (answer.Net s l) = codes "net ok " ++ (decimal s ++ (codes " " ++ decimal l))
 answer_text (answer.Kind k) = codes "kind " ++ kind_text k
 answer_text (answer.Grades n) = codes "grades " ++ decimal n
 answer_text (answer.List n) = codes "list " ++ list_word n
 answer_text (answer.Path l) = codes "path " ++ label_text l
+answer_text answer.Started = codes "start ok"
+answer_text (answer.Worked n m) = codes "work " ++ (decimal n ++ (codes " " ++ decimal m))
+answer_text (answer.Regraded n m) = codes "regrade " ++ (decimal n ++ (codes " " ++ decimal m))
+answer_text (answer.Asked o n) = asked_text o n
+answer_text (answer.Route ls) = codes "route " ++ (decimal (length ls) ++ (codes ":" ++ spaced decimal ls))
+answer_text (answer.Labels ls) = codes "labels" ++ spaced label_text ls
+answer_text (answer.Entries es) = codes "entries" ++ spaced decimal es
 answer_text answer.Poked = codes "poke"
+answer_text answer.Resized = codes "resize"
 answer_text (answer.Entered e) = entered_text e
 answer_text (answer.Picked o) = picked_text o
 answer_text answer.Emptied = codes "empty"
@@ -63,7 +77,15 @@ way_text (way.Parted l b) = codes "not a path: link " ++ (decimal l ++ (codes " 
 
 abbrev pub usage_text : Usage → List ℕ
 usage_text usage.List = codes "list takes first-in, two-ended, small-label, threshold <step> or bucket <width> <span>"
-usage_text usage.Poke = codes "poke takes label <index> <value>"
+usage_text usage.Start = codes "start takes <gateway>"
+usage_text usage.Work = codes "work takes <allowed>"
+usage_text usage.Regrade = codes "regrade takes <link> <grade>"
+usage_text usage.Ask = codes "ask takes <station>"
+usage_text usage.Route = codes "route takes <station> <places>"
+usage_text usage.Labels = codes "labels takes no words"
+usage_text usage.Entries = codes "entries takes no words"
+usage_text usage.Poke = codes "poke takes label, entry or grade, then <index> <value>"
+usage_text usage.Resize = codes "resize takes labels, entries or grades, then <count>"
 usage_text usage.Enter = codes "enter takes <station> [handed]"
 usage_text usage.Pick = codes "pick takes [handed]"
 usage_text usage.Empty = codes "empty takes no words"
@@ -77,6 +99,8 @@ trouble_text trouble.NoSlash = codes "net needs one / between starts and heads"
 trouble_text trouble.NoKind = codes "kind takes one of airtime, chance, margin"
 trouble_text (trouble.Usage u) = usage_text u
 trouble_text (trouble.NoLabel n) = codes "there are " ++ (decimal n ++ codes " labels")
+trouble_text (trouble.NoEntry n) = codes "there are " ++ (decimal n ++ codes " entries")
+trouble_text (trouble.NoGrade n) = codes "there are " ++ (decimal n ++ codes " grades")
 trouble_text (trouble.NotPath f) = way_text f
 trouble_text trouble.Memory = codes "out of memory"
 

@@ -4,4 +4,5 @@
 pub mod answer;
 pub mod fault;
 pub mod trouble;
+pub mod values;
 pub mod verb;

@@ -35,7 +35,15 @@ impl fmt::Display for Bounds {
 #[derive(Clone, Copy, Debug, PartialEq, Eq)]
 pub enum Usage {
     List,
+    Start,
+    Work,
+    Regrade,
+    Ask,
+    Route,
+    Labels,
+    Entries,
     Poke,
+    Resize,
     Enter,
     Pick,
     Empty,
@@ -50,7 +58,15 @@ impl fmt::Display for Usage {
             Usage::List => {
                 "list takes first-in, two-ended, small-label, threshold <step> or bucket <width> <span>"
             }
-            Usage::Poke => "poke takes label <index> <value>",
+            Usage::Start => "start takes <gateway>",
+            Usage::Work => "work takes <allowed>",
+            Usage::Regrade => "regrade takes <link> <grade>",
+            Usage::Ask => "ask takes <station>",
+            Usage::Route => "route takes <station> <places>",
+            Usage::Labels => "labels takes no words",
+            Usage::Entries => "entries takes no words",
+            Usage::Poke => "poke takes label, entry or grade, then <index> <value>",
+            Usage::Resize => "resize takes labels, entries or grades, then <count>",
             Usage::Enter => "enter takes <station> [handed]",
             Usage::Pick => "pick takes [handed]",
             Usage::Empty => "empty takes no words",
@@ -74,8 +90,10 @@ pub enum Trouble {
     NoKind,
     // The words after the command are not those that it takes.
     Usage(Usage),
-    // There are only so many labels.
+    // There are only so many labels, entries or grades.
     NoLabel(usize),
+    NoEntry(usize),
+    NoGrade(usize),
     // The proposed links have no grade as a path.
     NotPath(WayFault),
     // There is not enough memory.
@@ -96,6 +114,8 @@ impl fmt::Display for Trouble {
             Trouble::NoKind => f.write_str("kind takes one of airtime, chance, margin"),
             Trouble::Usage(usage) => write!(f, "{usage}"),
             Trouble::NoLabel(count) => write!(f, "there are {count} labels"),
+            Trouble::NoEntry(count) => write!(f, "there are {count} entries"),
+            Trouble::NoGrade(count) => write!(f, "there are {count} grades"),
             Trouble::NotPath(fault) => write!(f, "{fault}"),
             Trouble::Memory => f.write_str("out of memory"),
         }

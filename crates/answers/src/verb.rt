@@ -26,16 +26,31 @@ pub enum SiteVerb {
     Held(HeldVerb),
 }
 
-// What is asked of the grades, the labels and the candidate list of a site alone.
+// What is asked of what a site holds beside its net.
 #[derive(Clone, Copy, Debug, PartialEq, Eq)]
 pub enum HeldVerb {
     Grades,
     List,
+    // A call of the book.
+    Call(CallVerb),
+    Labels,
+    Entries,
     Poke,
+    Resize,
     Enter,
     Pick,
     Empty,
     Waiting,
+}
+
+// The calls of the book.
+#[derive(Clone, Copy, Debug, PartialEq, Eq)]
+pub enum CallVerb {
+    Start,
+    Work,
+    Regrade,
+    Ask,
+    Route,
 }
 
 // The kinds of grade, by their names in a script.
@@ -58,7 +73,15 @@ impl TryFrom<&[u8]> for Verb {
             b"grades" => Ok(Verb::Site(SiteVerb::Held(HeldVerb::Grades))),
             b"list" => Ok(Verb::Site(SiteVerb::Held(HeldVerb::List))),
             b"path" => Ok(Verb::Site(SiteVerb::Path)),
+            b"start" => Ok(Verb::Site(SiteVerb::Held(HeldVerb::Call(CallVerb::Start)))),
+            b"work" => Ok(Verb::Site(SiteVerb::Held(HeldVerb::Call(CallVerb::Work)))),
+            b"regrade" => Ok(Verb::Site(SiteVerb::Held(HeldVerb::Call(CallVerb::Regrade)))),
+            b"ask" => Ok(Verb::Site(SiteVerb::Held(HeldVerb::Call(CallVerb::Ask)))),
+            b"route" => Ok(Verb::Site(SiteVerb::Held(HeldVerb::Call(CallVerb::Route)))),
+            b"labels" => Ok(Verb::Site(SiteVerb::Held(HeldVerb::Labels))),
+            b"entries" => Ok(Verb::Site(SiteVerb::Held(HeldVerb::Entries))),
             b"poke" => Ok(Verb::Site(SiteVerb::Held(HeldVerb::Poke))),
+            b"resize" => Ok(Verb::Site(SiteVerb::Held(HeldVerb::Resize))),
             b"enter" => Ok(Verb::Site(SiteVerb::Held(HeldVerb::Enter))),
             b"pick" => Ok(Verb::Site(SiteVerb::Held(HeldVerb::Pick))),
             b"empty" => Ok(Verb::Site(SiteVerb::Held(HeldVerb::Empty))),

@@ -1,15 +1,26 @@
 -- The table of worked cases. Each row is a case with its outcome, and `Stands` says by the definitions what a row claims.
-use Rattle.std.specs.Prelude.{◌≡◌, ℕ, List, [], ◌∷◌, map, length, ℤ, pos, negsuc, Some, None, Ok, Err, Option, Result}
+use Rattle.std.specs.Prelude.{◌≡◌, ℕ, false, List, [], ◌∷◌, ◌++◌, map, reverse, replicate, length, ℤ, pos, negsuc, Some, None, Ok, Err, Option, Result, IsOkAnd, slice_set}
+use Rattle.refusals.specs.declared.book.BookFault.{BookFault}
+use Rattle.refusals.specs.declared.book.BookFault.TheVariants.{Short}
 use Rattle.refusals.specs.declared.list.ListFault.{ListFault}
 use Rattle.refusals.specs.declared.list.ListFault.TheVariants.{Buckets}
+use Rattle.refusals.specs.declared.told.Layer.{Layer}
+use Rattle.refusals.specs.declared.told.Told.{Told}
+use Rattle.refusals.specs.Tells.{told_as, book_tells}
 use Rattle.kinds.specs.declared.airtime.Airtime.{Airtime}
-use Rattle.kinds.specs.Airtimes.{airtime_of, air_carry}
+use Rattle.kinds.specs.Airtimes.{airtime_of, air_start, air_carry}
 use Rattle.kinds.specs.Chances.{chance_read, chance_carry}
 use Rattle.kinds.specs.Margins.{margin_of, margin_carry}
-use Rattle.net.specs.Table.{Table, table}
+use Rattle.net.specs.Table.{Table, table, station_count}
 use Rattle.kinds.specs.Shipped.{by_airtime}
 use Rattle.paths.specs.Simple.{simple_paths}
-use Rattle.choice.specs.AnyOrder.{AnyModel, any_entering, any_picking}
+use Rattle.walks.specs.Walk.{unlabelled, own}
+use Rattle.runs.specs.Plan.{plan}
+use Rattle.runs.specs.Calls.{Memory, Call, Does}
+use Rattle.runs.specs.Calls as book
+use Rattle.runs.specs.Law.{Event, event, Run}
+use Rattle.runs.specs.Ordered.{by_order}
+use Rattle.choice.specs.AnyOrder.{AnyModel, any_entering, any_picking, any_order}
 use Rattle.choice.specs.Choices.{chosen}
 use Rattle.choice.specs.declared.make.Choice.{Choice}
 use Rattle.choice.specs.declared.make.Choice.TheVariants as choice
@@ -30,6 +41,10 @@ pub data Case : Type 0 where
   order : Choice Airtime → List ℕ → List Step → List (Option ℕ) → Case
   -- buckets of this width and this span are refused
   no_buckets : ℕ → ℕ → Case
+  -- over such a list, from a new book on this net with these airtimes, calls in the order of time get these answers, and lead to these labels and entries
+  run : Choice Airtime → Table → List ℕ → List (Event Airtime Airtime) → List ℕ → List ℕ → Case
+  -- after such calls with their answers, the entry of a station is overwritten, and then a call is refused and told so
+  overwritten : Choice Airtime → Table → List ℕ → List (Event Airtime Airtime) → ℕ → ℕ → Call Airtime → Told → Case
 
 -- what the picks among some steps answer
 abbrev pub answers : List Airtime → AnyModel Airtime Airtime → List Step → List (Option ℕ)
@@ -41,6 +56,34 @@ abbrev pub Answers : List Airtime → Result (AnyModel Airtime Airtime) ListFaul
 Answers ls (Ok m) steps picks = answers ls m steps ≡ picks
 Answers ls (Err e) steps picks = ⊥
 
+-- what a book by airtime records over any of the lists
+abbrev pub AirMemory : Type 0
+AirMemory = Memory Airtime Airtime (AnyModel Airtime Airtime)
+
+-- a book that was not started, over the labels and entries of fresh memory
+abbrev pub new_memory : Table → List ℕ → AnyModel Airtime Airtime → AirMemory
+new_memory t grades m = record {
+  started = false;
+  gateway = 0;
+  grades = map airtime_of grades;
+  plan = plan (replicate (station_count t) air_start) (replicate (station_count t) unlabelled);
+  list = m;
+}
+
+-- over a list that holds this, a run of these calls and answers, in the order of time, ends in such a memory
+abbrev pub RunsTo : Table → List ℕ → List (Event Airtime Airtime) → (AirMemory → Type 0) → AnyModel Airtime Airtime → Type 0
+RunsTo t grades events Ends m = (u : AirMemory) × Run by_airtime (by_order (any_order by_airtime)) t (new_memory t grades m) (reverse events) u × Ends u
+
+abbrev pub EndsWith : List ℕ → List ℕ → AirMemory → Type 0
+EndsWith labels entries u = (map (λ (x : Airtime). x.micros) u.plan.labels ≡ labels) × (u.plan.entries ≡ entries)
+
+-- the same memory, but for the entry of station v
+abbrev pub with_entry : AirMemory → ℕ → ℕ → AirMemory
+with_entry u v e = record u { plan = plan u.plan.labels (slice_set u.plan.entries v e) }
+
+abbrev pub Refuses : Table → Call Airtime → Told → AirMemory → Type 0
+Refuses t a told u = (f : BookFault) × Does by_airtime (by_order (any_order by_airtime)) t u a (book.refused f) u × (book_tells f ≡ told)
+
 abbrev pub Stands : Case → Type 0
 Stands (airtime x g y) = (air_carry (airtime_of x) (airtime_of g)).micros ≡ y
 Stands (chance x g y) = (chance_carry (chance_read x) (chance_read g)).parts ≡ y
@@ -48,10 +91,24 @@ Stands (margin x g y) = (margin_carry (margin_of x) (margin_of g)).decibels ≡ 
 Stands (paths t n) = length (simple_paths t) ≡ n
 Stands (order c ls steps picks) = Answers (map airtime_of ls) (chosen by_airtime c) steps picks
 Stands (no_buckets width span) = chosen by_airtime (choice.Bucket width span) ≡ Err Buckets
+Stands (run c t grades events labels entries) = IsOkAnd (chosen by_airtime c) (RunsTo t grades events (EndsWith labels entries))
+Stands (overwritten c t grades events v e a told) = IsOkAnd (chosen by_airtime c) (RunsTo t grades events (λ u. Refuses t a told (with_entry u v e)))
 
 -- four stations and five links: 0 to 1, 0 to 2, 1 to 3, 2 to 1, 2 to 3
 abbrev pub four_roofs : Table
 four_roofs = table (0 ∷ 2 ∷ 3 ∷ 5 ∷ 5 ∷ []) (1 ∷ 2 ∷ 3 ∷ 1 ∷ 3 ∷ [])
+
+-- the airtimes of these links
+abbrev pub roof_airtimes : List ℕ
+roof_airtimes = 4 ∷ 1 ∷ 1 ∷ 2 ∷ 5 ∷ []
+
+-- a start from station 0, and work that leaves none waiting after so many picks
+abbrev pub works_out : ℕ → List (Event Airtime Airtime)
+works_out picks = event (book.start 0) book.started ∷ event (book.work 10) (book.worked picks 0) ∷ []
+
+-- one station and no link
+abbrev pub one_roof : Table
+one_roof = table (0 ∷ 0 ∷ []) []
 
 -- the labels of four stations
 abbrev pub four_labels : List ℕ
@@ -83,6 +140,20 @@ worked =
     ∷ order (choice.Bucket 2 5) four_labels all_four (Some 0 ∷ Some 2 ∷ Some 3 ∷ Some 1 ∷ None ∷ [])
     ∷ order (choice.Bucket 2 5) four_labels one_unknown (Some 4 ∷ Some 3 ∷ Some 2 ∷ Some 1 ∷ None ∷ [])
     ∷ no_buckets 2 128
+    ∷ run choice.FirstIn four_roofs roof_airtimes (works_out 6) (0 ∷ 3 ∷ 1 ∷ 4 ∷ []) (65534 ∷ 3 ∷ 1 ∷ 2 ∷ [])
+    ∷ run choice.TwoEnded four_roofs roof_airtimes (works_out 5) (0 ∷ 3 ∷ 1 ∷ 4 ∷ []) (65534 ∷ 3 ∷ 1 ∷ 2 ∷ [])
+    ∷ run choice.SmallLabel four_roofs roof_airtimes (works_out 4) (0 ∷ 3 ∷ 1 ∷ 4 ∷ []) (65534 ∷ 3 ∷ 1 ∷ 2 ∷ [])
+    ∷ run (choice.Threshold (airtime_of 2)) four_roofs roof_airtimes (works_out 4) (0 ∷ 3 ∷ 1 ∷ 4 ∷ []) (65534 ∷ 3 ∷ 1 ∷ 2 ∷ [])
+    ∷ run (choice.Bucket 2 5) four_roofs roof_airtimes (works_out 5) (0 ∷ 3 ∷ 1 ∷ 4 ∷ []) (65534 ∷ 3 ∷ 1 ∷ 2 ∷ [])
+    ∷ run choice.FirstIn four_roofs roof_airtimes
+    (works_out 6 ++ event (book.regrade 3 (airtime_of 9)) (book.regraded 2 2) ∷ event (book.work 10) (book.worked 4 0) ∷ [])
+    (0 ∷ 4 ∷ 1 ∷ 5 ∷ []) (65534 ∷ 0 ∷ 1 ∷ 2 ∷ [])
+    ∷ run choice.FirstIn one_roof [] (event (book.start 0) book.started ∷ event (book.work 0) (book.worked 0 1) ∷ []) (0 ∷ []) (65534 ∷ [])
+    ∷ run choice.FirstIn four_roofs roof_airtimes (works_out 6 ++ event (book.route 3 10) (book.routed (1 ∷ 3 ∷ 2 ∷ [])) ∷ [])
+    (0 ∷ 3 ∷ 1 ∷ 4 ∷ []) (65534 ∷ 3 ∷ 1 ∷ 2 ∷ [])
+    ∷ run choice.FirstIn four_roofs roof_airtimes (works_out 6 ++ event (book.route 3 2) (book.refused (Short 3)) ∷ [])
+    (0 ∷ 3 ∷ 1 ∷ 4 ∷ []) (65534 ∷ 3 ∷ 1 ∷ 2 ∷ [])
+    ∷ overwritten choice.FirstIn four_roofs roof_airtimes (works_out 6) 1 own (book.route 3 10) (told_as 11 0 Layer.Book)
     ∷ []
 
 abbrev pub AllStand : List Case → Type 0

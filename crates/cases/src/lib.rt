@@ -1,6 +1,8 @@
 // The worked cases: one table, computed from the definitions that the contracts of all layers use.
 #![tactic(auto)]
 
+pub mod caller;
+
 ghost use Rattle.std.specs.Prelude.{◌≡◌, length};
 ghost use Rattle.cases.specs.Worked.{worked, AllStand};
 
@@ -9,8 +11,10 @@ pub fn worked_cases() -> u16
     ensures count { result ≡ length worked }
     ensures stand { AllStand worked }
 {
-    16
+    26
 }
 
+#[cfg(test)]
+mod book_tests;
 #[cfg(test)]
 mod tests;

@@ -1,1 +1,2 @@
 pub mod Shapes
+pub mod Lifted

@@ -1,19 +1,27 @@
 -- What a site holds beside its net, in one kind of grade.
-use Rattle.std.specs.Prelude.{ℕ, List, [], replicate, vec_items}
+use Rattle.std.specs.Prelude.{ℕ, false, [], replicate, vec_items}
 use Rattle.kinds.specs.declared.kind.Kind.{Ghosts}
 use Rattle.choice.specs.AnyOrder.{AnyModel, of_first_in}
 use Rattle.choice.specs.AnyModels.{any_model}
+use Rattle.walks.specs.Walk.{unlabelled}
+use Rattle.runs.specs.Plan.{plan}
+use Rattle.runs.specs.Calls.{Memory}
+use Rattle.book.specs.Memories.{memory}
 use Rattle.hands.specs.declared.holding.Holding.{Holding}
 
--- the grades of the links, the labels of the stations, and the candidate list by its model
-pub record HeldBy (L G : Type 0) : Type 0 where
-  pub grades : List G
-  pub labels : List L
-  pub list : AnyModel L G
+-- the memory of a book, with the candidate list by its model
+abbrev pub HeldBy : Type 0 → Type 0 → Type 0
+HeldBy L G = Memory L G (AnyModel L G)
 
 abbrev pub held_by : {K L G : Type 0} {k : Ghosts K L G} → Holding K L G k → HeldBy L G
-held_by h = record { grades = vec_items h.grades; labels = vec_items h.labels; list = any_model h.list }
+held_by h = memory h.book (vec_items h.grades) (vec_items h.labels) (vec_items h.entries) (any_model h.list)
 
--- for so many stations and links: every station has the start label, every link the grade g, and the list is first-in and empty
-abbrev pub new_held : {K L G : Type 0} → Ghosts K L G → ℕ → ℕ → G → HeldBy L G
-new_held k stations links g = record { grades = replicate links g; labels = replicate stations k.start; list = of_first_in [] }
+-- for so many stations and links: the book is not started, every station has the start label and no entry, every link the grade g, and the list is first-in and empty
+abbrev pub new_held : {K L G : Type 0} → Ghosts K L G → G → ℕ → ℕ → HeldBy L G
+new_held k g stations links = record {
+  started = false;
+  gateway = 0;
+  grades = replicate links g;
+  plan = plan (replicate stations k.start) (replicate stations unlabelled);
+  list = of_first_in [];
+}

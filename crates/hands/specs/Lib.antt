@@ -1,4 +1,5 @@
 pub mod Held
 pub mod Asks
 pub mod Acts
+pub mod Calls
 pub mod Lines

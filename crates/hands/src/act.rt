@@ -1,13 +1,13 @@
-// Carrying out the commands on what is held.
+// Carrying out the commands on the candidate list that is held, and on the grades as a whole.
 ghost use Rattle.std.specs.Prelude.{◌≡◌, drop};
 ghost use Rattle.answers.specs.Outcomes.{Does, Came};
 ghost use Rattle.reading.specs.Reading.{read_all};
 ghost use Rattle.script.specs.Words.{word_bytes};
-ghost use Rattle.hands.specs.Acts.{handed_over, regraded, poked, chose, entered, picked, emptied, waited};
-ghost use Rattle.hands.specs.Asks.{choice_asked, enter_asked, pick_asked, poke_asked};
+ghost use Rattle.hands.specs.Acts.{handed_over, regraded, chose, entered, picked, emptied, waited};
+ghost use Rattle.hands.specs.Asks.{choice_asked, enter_asked, pick_asked};
 ghost use Rattle.hands.specs.Held.{held_by};
 
-use crate::ask::{Entering, NotChosen, Poking, choice_asked, enter_asked, pick_asked, poke_asked};
+use crate::ask::{Entering, NotAsked, choice_asked, enter_asked, pick_asked};
 use crate::holding::Holding;
 use answers::answer::Answer;
 use answers::trouble::{Trouble, Usage};
@@ -43,24 +43,6 @@ where
 
 impl<K: Kind> Holding<K>
 where
-    K::Label: Readable,
-{
-    // `poke label`: overwrites one label.
-    pub fn poke(&mut self, words: &[&[u8]]) -> Result<Answer, Trouble>
-        ensures { Does (poked (held_by self.old) (poke_asked K.Label.Readable.reads K.Label.Readable.bounds (word_bytes words.now))) result (held_by self.new) }
-    {
-        let Poking { index, label } = poke_asked(words)?;
-        let count = self.labels.len();
-        let Some(old) = self.labels.get_mut(usize::from(index)) else {
-            return Err(Trouble::NoLabel(count));
-        };
-        *old = label;
-        Ok(Answer::Poked)
-    }
-}
-
-impl<K: Kind> Holding<K>
-where
     K::Grade: Single,
 {
     // `list`: the list that is asked for, new and empty, takes the place of the one that is held.
@@ -69,9 +51,9 @@ where
     {
         let choice = match choice_asked(words) {
             Ok(choice) => choice,
-            Err(NotChosen::Refused(fault)) => return Ok(Answer::Refused(fault.told())),
+            Err(NotAsked::Refused(fault)) => return Ok(Answer::Refused(fault.told())),
             // A trouble is the command's own error, and a refusal its answer.
-            Err(NotChosen::Troubled(trouble)) => return Err(trouble),
+            Err(NotAsked::Troubled(trouble)) => return Err(trouble),
         };
         match make::<K>(choice) {
             Ok(list) => {

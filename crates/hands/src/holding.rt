@@ -2,15 +2,18 @@
 ghost use Rattle.std.specs.Prelude.{◌≡◌};
 ghost use Rattle.hands.specs.Held.{held_by};
 
+use book::book::Book;
 use choice::any::AnyList;
 use kinds::kind::Kind;
 
-// The grades, of which there may be any number (that they are one per link is tested where they are used); the labels, at first one per
-// station; and the candidate list.
+// A book and its memory: the grades, labels and entries, of which there may be any number (that they are one per link or station is tested where they
+// are used), and the candidate list.
 #[derive(Drop)]
 pub struct Holding<K: Kind> {
+    pub(crate) book: Book,
     pub(crate) grades: Vec<K::Grade>,
     pub(crate) labels: Vec<K::Label>,
+    pub(crate) entries: Vec<u16>,
     pub(crate) list: AnyList<K>,
 }
 

@@ -11,20 +11,33 @@ const HELP: &str = "usage: planner [--help | FILE]
 Reads a site script from FILE, or from standard input, and answers each command by one line.
 
   net <starts..> / <heads..>     a new site over this table of links
-  kind airtime|chance|margin     how links are graded; grades, labels and list are new then
+  kind airtime|chance|margin     how links are graded; all but the net is new then
   grades <grades..>              the grades of the links, in their order
   list first-in|two-ended|small-label
   list threshold <step>
   list bucket <width> <span>     a new candidate list, which is empty
   path <links..>                 the grade of that path
 
-The candidate list by hand (handed: only the first so many labels are handed over):
+The plan from a gateway:
 
+  start <gateway>                begins anew: only the gateway has a label, and it waits
+  work <allowed>                 at most so many picks; answers picks made, stations waiting
+  regrade <link> <grade>         a new grade; answers labels lost, stations new to the list
+  ask <station>                  its label and entry, or none; then stations waiting
+  route <station> <places>       the links of its route, if there are so many places
+
+The memory by hand (handed: only the first so many labels are handed over to the list):
+
+  labels                         the labels of all stations
+  entries                        the entries of all stations
+  poke label|entry|grade <index> <value>
+                                 overwrites one element
+  resize labels|entries|grades <count>
+                                 another length: the list is cut, or filled up
   enter <station> [handed]       the station waits; answers new or waiting
   pick [handed]                  takes a waiting station, or none
   empty                          no station waits
   waiting                        how many stations wait
-  poke label <index> <value>     overwrites a label
 
 Blank lines and lines that begin with # are passed over. What cannot be used is refused by a number:
 refused <number> place <place> layer <layer>. A line that cannot be carried out answers error line <n>: <why>,

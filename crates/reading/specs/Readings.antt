@@ -5,7 +5,10 @@ use Rattle.kinds.specs.declared.chance.Chance.{Chance}
 use Rattle.kinds.specs.declared.margin.Margin.{Margin}
 use Rattle.answers.specs.declared.trouble.Bounds.{Bounds}
 use Rattle.reading.specs.declared.read.Readable.{Ghosts}
-use Rattle.reading.specs.Spelling.{long_read, airtime_read, chance_reading, margin_read}
+use Rattle.reading.specs.Spelling.{short_read, long_read, airtime_read, chance_reading, margin_read}
+
+abbrev pub reads_short : Ghosts ℕ
+reads_short = record { reads = short_read; bounds = Bounds.Short }
 
 abbrev pub reads_long : Ghosts ℕ
 reads_long = record { reads = long_read; bounds = Bounds.Long }

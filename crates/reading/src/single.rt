@@ -1,7 +1,9 @@
-// Making one grade from what a word spells.
-ghost use Rattle.std.specs.Prelude.{◌≡◌, Ok, Result};
+// Making one grade: from what a word spells, and the one of 0.
+ghost use Rattle.std.specs.Prelude.{◌≡◌, pos, Ok, Result};
 ghost use Rattle.refusals.specs.declared.kind.KindFault.{KindFault};
-ghost use Rattle.kinds.specs.Chances.{chance_made};
+ghost use Rattle.kinds.specs.Airtimes.{airtime_of};
+ghost use Rattle.kinds.specs.Chances.{chance_made, chance_read};
+ghost use Rattle.kinds.specs.Margins.{margin_of};
 
 use crate::read::Readable;
 use kinds::airtime::Airtime;
@@ -18,8 +20,14 @@ pub trait Single: Copy {
 
     ghost makes: { Self.Spelt → Result Self KindFault };
 
+    ghost zero: { Self };
+
     fn single(spelt: Self::Spelt) -> Result<Self, KindFault>
         ensures { result ≡ makes spelt };
+
+    // The grade that 0 spells.
+    fn zero() -> Self
+        ensures { result ≡ zero };
 }
 
 impl Single for Airtime {
@@ -27,8 +35,14 @@ impl Single for Airtime {
 
     ghost makes = { λ grade. Ok grade };
 
+    ghost zero = { airtime_of 0 };
+
     fn single(spelt: Airtime) -> Result<Airtime, KindFault> {
         Ok(spelt)
+    }
+
+    fn zero() -> Airtime {
+        Airtime::new(0)
     }
 }
 
@@ -37,8 +51,14 @@ impl Single for Chance {
 
     ghost makes = { chance_made };
 
+    ghost zero = { chance_read 0 };
+
     fn single(spelt: u32) -> Result<Chance, KindFault> {
         Chance::new(spelt)
+    }
+
+    fn zero() -> Chance {
+        Chance::read(0)
     }
 }
 
@@ -47,7 +67,13 @@ impl Single for Margin {
 
     ghost makes = { λ grade. Ok grade };
 
+    ghost zero = { margin_of (pos 0) };
+
     fn single(spelt: Margin) -> Result<Margin, KindFault> {
         Ok(spelt)
+    }
+
+    fn zero() -> Margin {
+        Margin::new(0)
     }
 }

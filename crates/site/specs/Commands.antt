@@ -1,5 +1,5 @@
 -- What each command answers, and what it leaves: the site before, the words of its line, the answer, and the site after.
-use Rattle.std.specs.Prelude.{◌≡◌, ℕ, Bool, ◌⊎◌, List, [], ◌∷◌, drop, Some, None, Ok, Err, MatchBool, Option, Result, ◌==◌, slice_index}
+use Rattle.std.specs.Prelude.{◌≡◌, ℕ, Bool, ◌⊎◌, List, [], ◌∷◌, drop, Some, None, Ok, Err, MatchBool, Option, Result, ◌==◌, pos, slice_index}
 use Rattle.refusals.specs.declared.net.NetFault.{NetFault}
 use Rattle.refusals.specs.Tells.{net_tells}
 use Rattle.net.specs.Table.{Table, station_count, link_count}
@@ -20,7 +20,9 @@ use Rattle.answers.specs.declared.fault.WayFault.{WayFault}
 use Rattle.kinds.specs.declared.airtime.Airtime.{Airtime}
 use Rattle.kinds.specs.declared.chance.Chance.{Chance}
 use Rattle.kinds.specs.declared.margin.Margin.{Margin}
-use Rattle.kinds.specs.Chances.{chance_made}
+use Rattle.kinds.specs.Airtimes.{airtime_of}
+use Rattle.kinds.specs.Chances.{chance_made, chance_read}
+use Rattle.kinds.specs.Margins.{margin_of}
 use Rattle.kinds.specs.Shipped.{by_airtime, by_chance, by_margin}
 use Rattle.hands.specs.Held.{HeldBy}
 use Rattle.hands.specs.Lines.{HeldLine}
@@ -77,16 +79,19 @@ abbrev pub PathLine : Model → List (List ℕ) → Result Answer Trouble → Ty
 PathLine m ws r = (r ≡ Err Memory) ⊎ GradedOr m (read_all short_read Bounds.Short 2 (drop 1 ws)) r
 
 -- what is asked of what the site holds, in the kind that it has
-abbrev pub HeldIn : HeldVerb → AnyHeld → List (List ℕ) → Result Answer Trouble → AnyHeld → Type 0
-HeldIn v (airtimes h) ws r n = (x : HeldBy Airtime Airtime) × HeldLine by_airtime reads_airtime reads_airtime reads_airtime Ok v h ws r x × (n ≡ airtimes x)
-HeldIn v (chances h) ws r n = (x : HeldBy Chance Chance) × HeldLine by_chance reads_chance reads_chance reads_long chance_made v h ws r x × (n ≡ chances x)
-HeldIn v (margins h) ws r n = (x : HeldBy Margin Margin) × HeldLine by_margin reads_margin reads_margin reads_margin Ok v h ws r x × (n ≡ margins x)
+abbrev pub HeldIn : Table → HeldVerb → AnyHeld → List (List ℕ) → Result Answer Trouble → AnyHeld → Type 0
+HeldIn t v (airtimes h) ws r n =
+    (x : HeldBy Airtime Airtime) × HeldLine by_airtime reads_airtime Label.Airtime reads_airtime reads_airtime Ok (airtime_of 0) t v h ws r x × (n ≡ airtimes x)
+HeldIn t v (chances h) ws r n =
+    (x : HeldBy Chance Chance) × HeldLine by_chance reads_chance Label.Chance reads_chance reads_long chance_made (chance_read 0) t v h ws r x × (n ≡ chances x)
+HeldIn t v (margins h) ws r n =
+    (x : HeldBy Margin Margin) × HeldLine by_margin reads_margin Label.Margin reads_margin reads_margin Ok (margin_of (pos 0)) t v h ws r x × (n ≡ margins x)
 
 -- what a line comes to that asks something of an open site
 abbrev pub SiteLine : SiteVerb → Model → List (List ℕ) → Result Answer Trouble → Model → Type 0
 SiteLine asked.Kind m ws r n = KindLine m ws r n
 SiteLine asked.Path m ws r n = PathLine m ws r × (n ≡ m)
-SiteLine (asked.Held v) m ws r n = (x : AnyHeld) × HeldIn v m.held ws r x × (n ≡ record { links = m.links; held = x })
+SiteLine (asked.Held v) m ws r n = (x : AnyHeld) × HeldIn m.links v m.held ws r x × (n ≡ record { links = m.links; held = x })
 
 -- without a site there is no net yet
 abbrev pub OnSite : (Model → Result Answer Trouble → Model → Type 0) → Option Model → Result Answer Trouble → Option Model → Type 0

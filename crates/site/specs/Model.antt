@@ -28,8 +28,8 @@ held_in (ByAirtime h) = airtimes (held_by h)
 held_in (ByChance h) = chances (held_by h)
 held_in (ByMargin h) = margins (held_by h)
 
--- what is held beside a new net: every link has grade 0
+-- what is held beside a new net: a book that is not started, and every link has grade 0
 abbrev pub new_in : KindName → Table → AnyHeld
-new_in name.Airtime t = airtimes (new_held by_airtime (station_count t) (link_count t) (airtime_of 0))
-new_in name.Chance t = chances (new_held by_chance (station_count t) (link_count t) (chance_read 0))
-new_in name.Margin t = margins (new_held by_margin (station_count t) (link_count t) (margin_of (pos 0)))
+new_in name.Airtime t = airtimes (new_held by_airtime (airtime_of 0) (station_count t) (link_count t))
+new_in name.Chance t = chances (new_held by_chance (chance_read 0) (station_count t) (link_count t))
+new_in name.Margin t = margins (new_held by_margin (margin_of (pos 0)) (station_count t) (link_count t))

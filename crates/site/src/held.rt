@@ -9,16 +9,13 @@ use answers::answer::Answer;
 use answers::trouble::Trouble;
 use answers::verb::{HeldVerb, KindName};
 use hands::holding::Holding;
-use kinds::airtime::Airtime;
 use kinds::airtime::by::ByAirtime;
-use kinds::chance::Chance;
 use kinds::chance::by::ByChance;
-use kinds::margin::Margin;
 use kinds::margin::by::ByMargin;
 use net::star::Net;
 use std::alloc::{AllocError, Global};
 
-// Grades, labels and a candidate list, in any of the kinds.
+// A book and its memory, in any of the kinds.
 // The kind is chosen at run time, and each kind has types of its own: what is done with them needs an arm for each.
 #[derive(Drop)]
 pub enum AnyHolding {
@@ -28,46 +25,32 @@ pub enum AnyHolding {
 }
 
 impl AnyHolding {
-    // What is held beside a new net: every link has grade 0.
+    // What is held beside a new net: a book that is not started, and every link has grade 0.
     pub(crate) fn new(heap: Global, kind: KindName, net: &Net) -> Result<AnyHolding, AllocError>
         ensures { IfOk result (λ h. held_in h ≡ new_in kind (table_of net.now)) }
     {
         let (stations, links) = (net.stations(), net.links());
         match kind {
-            KindName::Airtime => Ok(AnyHolding::ByAirtime(Holding::new(
-                heap,
-                stations,
-                links,
-                Airtime::new(0),
-            )?)),
-            KindName::Chance => Ok(AnyHolding::ByChance(Holding::new(
-                heap,
-                stations,
-                links,
-                Chance::read(0),
-            )?)),
-            KindName::Margin => Ok(AnyHolding::ByMargin(Holding::new(
-                heap,
-                stations,
-                links,
-                Margin::new(0),
-            )?)),
+            KindName::Airtime => Ok(AnyHolding::ByAirtime(Holding::new(heap, stations, links)?)),
+            KindName::Chance => Ok(AnyHolding::ByChance(Holding::new(heap, stations, links)?)),
+            KindName::Margin => Ok(AnyHolding::ByMargin(Holding::new(heap, stations, links)?)),
         }
     }
 
-    // Carries out a line that asks something of what is held alone.
+    // Carries out a line that asks something of what is held.
     pub(crate) fn obey(
         &mut self,
         heap: Global,
+        net: &Net,
         words: &[&[u8]],
         verb: HeldVerb,
     ) -> Result<Answer, Trouble>
-        ensures { HeldIn verb (held_in self.old) (word_bytes words.now) result (held_in self.new) }
+        ensures { HeldIn (table_of net.now) verb (held_in self.old) (word_bytes words.now) result (held_in self.new) }
     {
         match self {
-            AnyHolding::ByAirtime(held) => held.obey(heap, words, verb),
-            AnyHolding::ByChance(held) => held.obey(heap, words, verb),
-            AnyHolding::ByMargin(held) => held.obey(heap, words, verb),
+            AnyHolding::ByAirtime(held) => held.obey(heap, net, words, verb),
+            AnyHolding::ByChance(held) => held.obey(heap, net, words, verb),
+            AnyHolding::ByMargin(held) => held.obey(heap, net, words, verb),
         }
     }
 }

@@ -1,5 +1,7 @@
 // What the commands do to an open site. The first word of a line is the command itself.
-ghost use Rattle.std.specs.Prelude.{◌≡◌};
+ghost use Rattle.std.specs.Prelude.{◌≡◌, false, is_some};
+ghost use Rattle.net.specs.Judged.{net_fault};
+ghost use Rattle.net.specs.Table.{table};
 ghost use Rattle.net.specs.View.{table_of};
 ghost use Rattle.script.specs.Words.{word_bytes};
 ghost use Rattle.site.specs.Model.{held_in};
@@ -32,14 +34,11 @@ impl Site {
         Ok(Answer::Kind(kind))
     }
 
-    // The net of the site's lists, which `fill` takes, since they are one.
+    // The net of the site's lists.
     pub(crate) fn net(&self) -> Net<'_>
         ensures { table_of result ≡ (model_of self.now).links }
     {
-        let mut net = Net::single();
-        net.fill(self.starts.as_slice(), self.heads.as_slice())
-            .unwrap();
-        net
+        net_of(self.starts.as_slice(), self.heads.as_slice())
     }
 
     // The grade of the way whose links the words spell.
@@ -62,9 +61,22 @@ impl Site {
         match verb {
             SiteVerb::Kind => self.choose(heap, words),
             SiteVerb::Path => self.path(heap, words),
-            SiteVerb::Held(verb) => self.held.obey(heap, words, verb),
+            SiteVerb::Held(verb) => {
+                let net = net_of(self.starts.as_slice(), self.heads.as_slice());
+                self.held.obey(heap, &net, words, verb)
+            }
         }
     }
+}
+
+// The net of two lists that are one.
+fn net_of<'a>(starts: &'a [u16], heads: &'a [u16]) -> Net<'a>
+    requires { is_some (net_fault (table starts.now heads.now)) ≡ false }
+    ensures { table_of result ≡ table starts.entry.now heads.entry.now }
+{
+    let mut net = Net::single();
+    net.fill(starts, heads).unwrap();
+    net
 }
 
 // The grade of a way in the kind that the site has.

@@ -72,7 +72,7 @@ poke label 1 2 3
 poke label 1 2 x
 poke labels 1 2
 poke Label 1 2
-poke grade 1 2
+poke grades 1 2
 poke 1 2
 poke 1 2 3
 poke x y z

@@ -1,8 +1,11 @@
 //! Lines about candidate lists, at random.
 
-use super::{Dice, Kind, Net, Script, KINDS};
+use super::dice::Dice;
+use super::kind::{Kind, KINDS};
+use super::net::Net;
+use super::script::Script;
 
-const LISTS: [&str; 5] = [
+pub const LISTS: [&str; 5] = [
     "first-in",
     "two-ended",
     "small-label",
@@ -142,11 +145,6 @@ impl Script {
     /// A net without links.
     fn bare_net(&mut self, stations: usize) {
         self.even_net(&[(stations + 1, 0)], &[]);
-    }
-
-    fn words(&mut self, line: &str) {
-        let words: Vec<String> = line.split(' ').map(str::to_string).collect();
-        self.line(&words);
     }
 
     fn enter(&mut self, desk: &Desk) {

@@ -5,7 +5,7 @@ use Rattle.answers.specs.declared.trouble.Bounds.{Bounds}
 use Rattle.answers.specs.declared.trouble.Trouble.TheVariants.{Usage}
 use Rattle.answers.specs.declared.trouble.Usage.TheVariants as usage
 use Rattle.script.specs.Words.{word_bytes}
-use Rattle.hands.specs.declared.ask.NotChosen.TheVariants.{Troubled}
+use Rattle.hands.specs.declared.ask.NotAsked.TheVariants.{Troubled}
 use Rattle.hands.specs.Asks.{choice_asked}
 use Rattle.hands.proofs.Shapes.{two_up}
 use Rattle.hands.proofs.ask.choice_asked.Goals as goal

@@ -1,0 +1,21 @@
+use Rattle.std.proofs.Common.{arith, rules}
+use Rattle.std.proofs.lemmas.List.{with_items_is}
+use Rattle.net.specs.View.{table_of}
+use Rattle.hands.proofs.Lifted.{called}
+use Rattle.hands.proofs.holding.Holding.start.Goals as goal
+
+pub returns-in-Ok : goal.returns-in-Ok
+returns-in-Ok g c =
+    let labels = with_items_is c.args.self.now.labels c.start.new.labels (omega arith) in
+    let entries = with_items_is c.args.self.now.entries c.start.new.entries (omega arith) in
+    rw (labels, entries)
+    (called g.K.Kind g.K.Label.ToLabel.label (table_of c.args.net.now) _ _ (search rules) (search rules)
+    (rw (c.as_slice.ensures.value, c.as_mut_slice.ensures.value, c.as_mut_slice-2.ensures.value) at c.in-Ok.ensures.does))
+
+pub returns-in-Err : goal.returns-in-Err
+returns-in-Err g c =
+    let labels = with_items_is c.args.self.now.labels c.start.new.labels (omega arith) in
+    let entries = with_items_is c.args.self.now.entries c.start.new.entries (omega arith) in
+    rw (labels, entries)
+    (called g.K.Kind g.K.Label.ToLabel.label (table_of c.args.net.now) _ _ (search rules) (search rules)
+    (rw (c.as_slice.ensures.value, c.as_mut_slice.ensures.value, c.as_mut_slice-2.ensures.value) at c.in-Err.ensures.does))

@@ -1,0 +1,4 @@
+// The law of runs.
+#![tactic(auto)]
+
+pub mod law;

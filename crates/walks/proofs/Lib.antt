@@ -1,0 +1,5 @@
+pub mod Walking
+pub mod Marks
+pub mod Searching
+pub mod Meeting
+pub mod Found

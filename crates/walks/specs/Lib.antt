@@ -1,0 +1,3 @@
+pub mod Walk
+pub mod Crossings
+pub mod Search
