@@ -3,6 +3,7 @@
 
 pub mod by_hand;
 pub mod calls;
+pub mod check;
 pub mod memory;
 pub mod settings;
 

@@ -1,6 +1,7 @@
 //! The second planner: reads a site script and writes one answer line for each of its commands.
 
 mod book;
+mod check;
 mod commands;
 mod engine;
 mod entries;
@@ -14,6 +15,11 @@ mod planner;
 mod reading;
 mod script;
 mod site;
+
+/// The dice of the generator.
+#[cfg(test)]
+#[path = "bin/scripts/dice.rs"]
+mod dice;
 
 use std::ffi::OsString;
 use std::fs::File;

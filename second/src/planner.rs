@@ -1,6 +1,6 @@
 //! Which command a line is, and its answer.
 
-use crate::commands::{by_hand, calls, memory, settings};
+use crate::commands::{by_hand, calls, check, memory, settings};
 use crate::faults::{Fault, Why};
 use crate::reading;
 use crate::script::{Line, Word, Words};
@@ -25,6 +25,7 @@ impl Command {
             b"regrade" => Command::OnSite(calls::regrade),
             b"ask" => Command::OnSite(calls::ask),
             b"route" => Command::OnSite(calls::route),
+            b"check" => Command::OnSite(check::check),
             b"labels" => Command::OnSite(memory::labels),
             b"entries" => Command::OnSite(memory::entries),
             b"poke" => Command::OnSite(memory::poke),

@@ -19,6 +19,7 @@ verb_of w =
     (if bytes_eq w (codes "regrade") then Some (Verb.Site (SiteVerb.Held (HeldVerb.Call CallVerb.Regrade))) else
     (if bytes_eq w (codes "ask") then Some (Verb.Site (SiteVerb.Held (HeldVerb.Call CallVerb.Ask))) else
     (if bytes_eq w (codes "route") then Some (Verb.Site (SiteVerb.Held (HeldVerb.Call CallVerb.Route))) else
+    (if bytes_eq w (codes "check") then Some (Verb.Site (SiteVerb.Held HeldVerb.Check)) else
     (if bytes_eq w (codes "labels") then Some (Verb.Site (SiteVerb.Held HeldVerb.Labels)) else
     (if bytes_eq w (codes "entries") then Some (Verb.Site (SiteVerb.Held HeldVerb.Entries)) else
     (if bytes_eq w (codes "poke") then Some (Verb.Site (SiteVerb.Held HeldVerb.Poke)) else
@@ -26,7 +27,7 @@ verb_of w =
     (if bytes_eq w (codes "enter") then Some (Verb.Site (SiteVerb.Held HeldVerb.Enter)) else
     (if bytes_eq w (codes "pick") then Some (Verb.Site (SiteVerb.Held HeldVerb.Pick)) else
     (if bytes_eq w (codes "empty") then Some (Verb.Site (SiteVerb.Held HeldVerb.Empty)) else
-    (if bytes_eq w (codes "waiting") then Some (Verb.Site (SiteVerb.Held HeldVerb.Waiting)) else None)))))))))))))))))
+    (if bytes_eq w (codes "waiting") then Some (Verb.Site (SiteVerb.Held HeldVerb.Waiting)) else None))))))))))))))))))
 
 abbrev pub kind_named : List ℕ → Option KindName
 kind_named w =

@@ -101,6 +101,8 @@ pub enum Answer {
     Asked(Option<Reached>, u16),
     // The links of the route.
     Route(Values<u16>),
+    // Labels and entries are a tree of best paths.
+    Checked,
     // The labels of all stations.
     Labels(Values<Label>),
     // The entries of all stations.
@@ -138,6 +140,7 @@ impl fmt::Display for Answer {
                 None => write!(f, "ask none {waiting}"),
             },
             Answer::Route(links) => write!(f, "route {}:{links}", links.len()),
+            Answer::Checked => f.write_str("check ok"),
             Answer::Labels(labels) => write!(f, "labels{labels}"),
             Answer::Entries(entries) => write!(f, "entries{entries}"),
             Answer::Poked => f.write_str("poke"),

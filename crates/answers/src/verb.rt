@@ -33,6 +33,7 @@ pub enum HeldVerb {
     List,
     // A call of the book.
     Call(CallVerb),
+    Check,
     Labels,
     Entries,
     Poke,
@@ -78,6 +79,7 @@ impl TryFrom<&[u8]> for Verb {
             b"regrade" => Ok(Verb::Site(SiteVerb::Held(HeldVerb::Call(CallVerb::Regrade)))),
             b"ask" => Ok(Verb::Site(SiteVerb::Held(HeldVerb::Call(CallVerb::Ask)))),
             b"route" => Ok(Verb::Site(SiteVerb::Held(HeldVerb::Call(CallVerb::Route)))),
+            b"check" => Ok(Verb::Site(SiteVerb::Held(HeldVerb::Check))),
             b"labels" => Ok(Verb::Site(SiteVerb::Held(HeldVerb::Labels))),
             b"entries" => Ok(Verb::Site(SiteVerb::Held(HeldVerb::Entries))),
             b"poke" => Ok(Verb::Site(SiteVerb::Held(HeldVerb::Poke))),

@@ -8,7 +8,7 @@ use Rattle.std.proofs.lemmas.List.FromFn.{filter_of_map_range_with_len_more}
 use Rattle.lists.specs.declared.list.CandidateList.{Ghosts as Candidates}
 use Rattle.lists.specs.Meaning.{ListLaws}
 use Rattle.runs.specs.Acts.{enters}
-use Rattle.book.specs.Losses.{Enters}
+use Rattle.book.specs.Entering.{Enters}
 use Rattle.runs.specs.ActsLemmas.{acts-append}
 
 -- the numbers below n + 1 that pass

@@ -2,7 +2,8 @@
 use Rattle.std.proofs.Common.{◌≡◌, ℕ, Bool, true, false}
 use Rattle.std.specs.List.{list_any}
 use Rattle.std.specs.declared.ops.Range.{Range}
-use Rattle.book.proofs.Scans.{left_in, Gives, left_in-next}
+use Rattle.net.proofs.Going.{Gives}
+use Rattle.book.proofs.Scans.{left_in, left_in-next}
 
 -- the range r gives x, and is q after it
 module _ (p : ℕ → Bool) (r : Range ℕ) (x : ℕ) (q : Range ℕ) (gives : Gives r x q) where

@@ -6,7 +6,7 @@ use Rattle.kinds.specs.declared.kind.Kind.{Ghosts as Kind}
 use Rattle.lists.specs.declared.list.CandidateList.{Ghosts as Candidates}
 use Rattle.net.specs.Table.{Table}
 use Rattle.runs.specs.Acts.{gives, Acts, waiting_in}
-use Rattle.runs.specs.Plan.{Plan}
+use Rattle.plans.specs.Plan.{Plan}
 use Rattle.runs.specs.Scan.{after_pick, pick_acts, after_picks, picks_acts}
 use Rattle.runs.specs.Calls.{Memory, last_pick, Works}
 use Rattle.runs.specs.ActsLemmas.{acts-append}

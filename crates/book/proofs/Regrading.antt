@@ -6,11 +6,11 @@ use Rattle.net.specs.Table.{Table, station_count, head_at, tail_at}
 use Rattle.lists.specs.Meaning.{count_below}
 use Rattle.lists.specs.declared.list.CandidateList.{Ghosts as Candidates}
 use Rattle.walks.specs.Walk.{entry_at, labelled, crosses}
-use Rattle.runs.specs.Plan.{Plan, label_at}
-use Rattle.runs.specs.Regrade.{spoils}
+use Rattle.plans.specs.Plan.{Plan, label_at}
+use Rattle.runs.specs.Regrade.{without, woken, spoils}
 use Rattle.runs.specs.Calls.{Memory, refusal, Does, regrades}
 use Rattle.runs.specs.Calls as calls
-use Rattle.book.specs.Losses.{without, woken, Enters}
+use Rattle.book.specs.Entering.{Enters}
 
 module _ {S K L G : Type 0} (k : Kind K L G) (c : Candidates S K L G) (t : Table) (m : Memory L G S) (l : ℕ) (x : G) (accepted : refusal t m (calls.regrade l x) ≡ None)
     (tail head : ℕ) (ends : (tail ≡ tail_at t l) × (head ≡ head_at t l))

@@ -3,7 +3,6 @@ use Rattle.std.proofs.Common.{◌≡◌, ℕ, suc, ◌+◌, ◌-◌, ◌<◌, �
 use Rattle.std.proofs.lemmas.Bool.{cases_eq, cases_Bool, both_ways, eq-eqb, ne_eqb, and_right}
 use Rattle.std.proofs.lemmas.List.{get_or-set_other}
 use Rattle.std.proofs.lemmas.Grind.{get_or_default_zero}
-use Rattle.std.proofs.lemmas.List.Sorted.{IsNonDecreasingBy-from_all_adjacent}
 use Rattle.std.specs.List.{range_with_len}
 use Rattle.std.specs.declared.ops.Range.{Range}
 use Rattle.std.proofs.lemmas.Option.{slice_get_read}
@@ -11,21 +10,20 @@ use Rattle.kinds.specs.declared.kind.Kind.{Ghosts as Kind}
 use Rattle.kinds.specs.Laws.{Laws}
 use Rattle.lists.specs.declared.list.CandidateList.{Ghosts as Candidates}
 use Rattle.net.specs.Table.{Table, ForwardStar, station_count, link_count, first_link, head_at}
+use Rattle.net.proofs.Going.{Gives}
+use Rattle.net.proofs.Tails.{first_link-below}
 use Rattle.paths.specs.Grade.{carried_over}
 use Rattle.walks.specs.Walk.{unlabelled, entry_at, labelled}
 use Rattle.runs.specs.Acts.{Acts}
-use Rattle.runs.specs.Plan.{Plan, label_at}
-use Rattle.runs.specs.Scan.{links_of, offered, after_link, link_acts, after_links, links_acts}
-use Rattle.book.specs.Offers.{welcomes, after_offer, offer_acts}
+use Rattle.plans.specs.Offers.{offered, welcomes}
+use Rattle.plans.specs.Plan.{Plan, label_at}
+use Rattle.runs.specs.Scan.{links_of, after_link, link_acts, after_links, links_acts}
+use Rattle.book.specs.Offers.{after_offer, offer_acts}
 use Rattle.runs.specs.ActsLemmas.{acts-append}
 
 -- the numbers of a range
 abbrev pub left_in : Range ℕ → List ℕ
 left_in r = range_with_len r.start (r.end - r.start)
-
--- range r gives the number l, and is q after it
-abbrev pub Gives : Range ℕ → ℕ → Range ℕ → Type 0
-Gives r l q = (q.end ≡ r.end) × ((0 < r.end - r.start) × (l ≡ r.start) × (q.start ≡ r.start + 1))
 
 pub left_in-next : (r : Range ℕ) (l : ℕ) (q : Range ℕ) → Gives r l q → left_in r ≡ l ∷ left_in q
 left_in-next r l q (end, step) = let n : r.end - r.start ≡ suc (r.end - (r.start + 1)) = omega arith in rw (n, step.1, step.2, end) refl
@@ -33,13 +31,6 @@ left_in-next r l q (end, step) = let n : r.end - r.start ≡ suc (r.end - (r.sta
 -- a station whose entry says so is labelled
 pub labelled-is : (entries : List ℕ) (v : ℕ) → v < length entries → (get_or entries v 0 ≡ unlabelled → ⊥) → labelled entries v ≡ true
 labelled-is entries v b h = rw (ne_eqb (entry_at entries v) unlabelled (λ e. h (sym (get_or_default_zero entries v unlabelled b) ∙ e)))
-
--- links of a station end where there are links at most
-pub first_link-below : {t : Table} → ForwardStar t → (s : ℕ) → s ≤ station_count t → first_link t s ≤ link_count t
-first_link-below {t} star s h =
-    let rises = IsNonDecreasingBy-from_all_adjacent (λ x. x) t.starts
-    (λ i d b. omega (arith, get_or_default_zero t.starts i d (omega arith), get_or_default_zero t.starts (i + 1) d b, star.rising i b)) in
-    omega (arith, star.last, rises s (length t.starts - 1) 0 (omega arith) (omega (arith, star.some)))
 
 module _ {K L G : Type 0} (k : Kind K L G) (laws : Laws k.carry k.at_least k.rank) where
   -- a station does not take its own label carried over a link
@@ -61,12 +52,13 @@ module _ {K L G : Type 0} (k : Kind K L G) (laws : Laws k.carry k.at_least k.ran
         ]
       ]
 
-module _ {K L G : Type 0} (k : Kind K L G) (t : Table) (gateway : ℕ) (grades : List G) where
-  -- what a link offers, with the label of its station read before
-  offered-is : (p : Plan L) (x l : ℕ) (a : L) (g : G) → a ≡ label_at k p x → l < length grades → g ≡ get_or grades l g
-      → offered k t gateway grades p x l ≡ Some (k.carry a g)
-  offered-is p x l a g e h is = ap (carried_over k (label_at k p x)) (slice_get_read grades (length grades) l g refl h is) ∙ ap (λ b. Some (k.carry b g)) (sym e)
+-- what a link offers, with the label of its station read before
+offered-is : {K L G : Type 0} (k : Kind K L G) (grades : List G) (p : Plan L) (x l : ℕ) (a : L) (g : G) → a ≡ label_at k p x → l < length grades
+    → g ≡ get_or grades l g → offered k grades p x l ≡ Some (k.carry a g)
+offered-is k grades p x l a g e h is =
+    ap (carried_over k (label_at k p x)) (slice_get_read grades (length grades) l g refl h is) ∙ ap (λ b. Some (k.carry b g)) (sym e)
 
+module _ {K L G : Type 0} (k : Kind K L G) (t : Table) (gateway : ℕ) (grades : List G) where
   -- a link into the gateway is passed over
   after_link-home : (p : Plan L) (x l : ℕ) → head_at t l ≡ gateway → after_link k t gateway grades p x l ≡ p
   after_link-home p x l home = rw (eq-eqb (head_at t l) gateway home)
@@ -75,11 +67,11 @@ module _ {K L G : Type 0} (k : Kind K L G) (t : Table) (gateway : ℕ) (grades :
   link_acts-home p x l home = rw (eq-eqb (head_at t l) gateway home)
 
   -- and any other offers its head a label
-  after_link-offer : (p : Plan L) (x l : ℕ) (a : L) → (head_at t l ≡ gateway → ⊥) → offered k t gateway grades p x l ≡ Some a
+  after_link-offer : (p : Plan L) (x l : ℕ) (a : L) → (head_at t l ≡ gateway → ⊥) → offered k grades p x l ≡ Some a
       → after_link k t gateway grades p x l ≡ after_offer k p (head_at t l) a l
   after_link-offer p x l a far e = rw (ne_eqb (head_at t l) gateway far, e)
 
-  link_acts-offer : (p : Plan L) (x l : ℕ) (a : L) → (head_at t l ≡ gateway → ⊥) → offered k t gateway grades p x l ≡ Some a
+  link_acts-offer : (p : Plan L) (x l : ℕ) (a : L) → (head_at t l ≡ gateway → ⊥) → offered k grades p x l ≡ Some a
       → link_acts k t gateway grades p x l ≡ offer_acts k p (head_at t l) a l
   link_acts-offer p x l a far e =
       rw (ne_eqb (head_at t l) gateway far, e) (elim (cases_Bool (welcomes k p (head_at t l) a)) [ inl takes ↦ rw takes | inr leaves ↦ rw leaves ])
@@ -136,7 +128,7 @@ module _ {S K L G : Type 0} {k : Kind K L G} {c : Candidates S K L G} {t : Table
   underway-offer {after = after} {p = p} {q = q} {s = s} {u = u} laws l g new gives far graded is made planned acts w =
       let h : l < length grades = omega (arith, w.within, gives) in
       let n : k.carry (label_at k p x) g ≡ new = sym (made ∙ ap (λ b. k.carry b g) w.label) in
-      let offer : offered k t gateway grades p x l ≡ Some new = offered-is k t gateway grades p x l a g w.label h is ∙ ap (λ b. Some b) (sym made) in
+      let offer : offered k grades p x l ≡ Some new = offered-is k grades p x l a g w.label h is ∙ ap (λ b. Some b) (sym made) in
       underway-next l after p s q u gives
       (after_link-offer k t gateway grades p x l new far offer ∙ sym planned)
       (rw (link_acts-offer k t gateway grades p x l new far offer) acts)

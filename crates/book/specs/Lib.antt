@@ -1,7 +1,6 @@
 pub mod Books
 pub mod Memories
 pub mod Tested
-pub mod Answers
-pub mod Losses
+pub mod Entering
 pub mod Offers
 pub mod Working

@@ -2,14 +2,14 @@
 ghost use Rattle.std.specs.Prelude.{◌≡◌, ◌<◌, length, replicate, slice_set};
 ghost use Rattle.net.specs.Table.{station_count};
 ghost use Rattle.net.specs.View.{table_of};
-ghost use Rattle.runs.specs.Plan.{plan};
-ghost use Rattle.walks.specs.Crossings.{marked};
+ghost use Rattle.plans.specs.Plan.{plan};
+ghost use Rattle.runs.specs.Regrade.{without};
+ghost use Rattle.walks.specs.Branches.{marked};
 ghost use Rattle.walks.specs.Walk.{unlabelled, own};
-ghost use Rattle.book.specs.Losses.{without};
 
 use kinds::kind::Kind;
 use net::star::Net;
-use walks::crossing::Crossing;
+use walks::branch::Branch;
 use walks::entry::{OWN, UNLABELLED};
 
 // A loop: a `Copy` label need not have a `clone`, which `fill` calls, that cannot fail.
@@ -33,12 +33,7 @@ pub(crate) fn begin<K: Kind>(labels: &mut [K::Label], entries: &mut [u16], gatew
 }
 
 // Takes label and entry from the lost stations.
-pub(crate) fn clear<K: Kind>(
-    net: &Net,
-    labels: &mut [K::Label],
-    entries: &mut [u16],
-    lost: &Crossing,
-)
+pub(crate) fn clear<K: Kind>(net: &Net, labels: &mut [K::Label], entries: &mut [u16], lost: &Branch)
     requires labels { length labels.old ≡ station_count (table_of net.now) }
     requires entries { length entries.old ≡ station_count (table_of net.now) }
     ensures { plan labels.new entries.new ≡ without K.Kind (marked lost.now) (station_count (table_of net.now)) (plan labels.old entries.old) }

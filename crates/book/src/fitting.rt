@@ -7,13 +7,14 @@ ghost use Rattle.book.specs.Tested.{Tested};
 
 use crate::book::Book;
 use net::star::Net;
+use plans::fits;
 use refusals::book::BookFault;
 
 // One grade per link.
 pub(crate) fn graded(net: &Net, grades: usize) -> Result<(), BookFault>
     ensures { Tested result fault.Grades (grades == link_count (table_of net.now)) }
 {
-    if grades != usize::from(net.links()) {
+    if !fits::graded(net, grades) {
         return Err(BookFault::Grades);
     }
     Ok(())
@@ -23,8 +24,7 @@ pub(crate) fn graded(net: &Net, grades: usize) -> Result<(), BookFault>
 pub(crate) fn sized(net: &Net, labels: usize, entries: usize) -> Result<(), BookFault>
     ensures { Tested result fault.Stations (labels == station_count (table_of net.now) && entries == station_count (table_of net.now)) }
 {
-    let stations = usize::from(net.stations());
-    if labels != stations || entries != stations {
+    if !fits::sized(net, labels, entries) {
         return Err(BookFault::Stations);
     }
     Ok(())

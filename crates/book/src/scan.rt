@@ -3,9 +3,10 @@ ghost use Rattle.std.specs.Prelude.{◌≡◌, ◌<◌, length, Ok};
 ghost use Rattle.net.specs.Table.{station_count, link_count};
 ghost use Rattle.net.specs.View.{table_of};
 ghost use Rattle.runs.specs.Acts.{Acts};
-ghost use Rattle.runs.specs.Plan.{plan};
+ghost use Rattle.plans.specs.Offers.{welcomes};
+ghost use Rattle.plans.specs.Plan.{plan};
 ghost use Rattle.runs.specs.Scan.{after_pick, pick_acts};
-ghost use Rattle.book.specs.Offers.{welcomes, after_offer, offer_acts};
+ghost use Rattle.book.specs.Offers.{after_offer, offer_acts};
 
 use kinds::kind::Kind;
 use lists::list::CandidateList;

@@ -3,16 +3,17 @@ ghost use Rattle.std.specs.Prelude.{◌≡◌, ◌<◌, [], ◌∷◌, if◌then
 ghost use Rattle.std.specs.Result.{IsOkAnd};
 ghost use Rattle.net.specs.Table.{station_count};
 ghost use Rattle.net.specs.View.{table_of};
-ghost use Rattle.walks.specs.Crossings.{marked};
+ghost use Rattle.walks.specs.Branches.{marked};
 ghost use Rattle.walks.specs.Walk.{labelled};
-ghost use Rattle.book.specs.Losses.{leads_to_lost, wakes, woken, Enters};
+ghost use Rattle.runs.specs.Regrade.{leads_to_lost, wakes, woken};
+ghost use Rattle.book.specs.Entering.{Enters};
 
 use kinds::kind::Kind;
 use lists::list::{CandidateList, Entered};
 use net::star::Net;
 use refusals::book::BookFault;
-use walks::crossing::Crossing;
-use walks::entry::{UNLABELLED, entry_of};
+use walks::branch::Branch;
+use walks::entry::labelled;
 
 // Enters a station. It tells how many did not wait: one or none.
 fn enter<K: Kind, L: CandidateList<K>>(
@@ -39,14 +40,15 @@ pub(crate) fn wake_one<K: Kind, L: CandidateList<K>>(
     requires { station < 1024 }
     ensures { IsOkAnd result (λ n. Enters L.CandidateList list.old (if labelled entries.now station then station ∷ [] else []) labels.now n list.new) }
 {
-    if entry_of(entries, station) == UNLABELLED {
-        return Ok(0);
+    if labelled(entries, station) {
+        enter::<K, L>(labels, list, station)
+    } else {
+        Ok(0)
     }
-    enter::<K, L>(labels, list, station)
 }
 
 // Whether a station has a link to a lost one.
-fn leads_to_lost(net: &Net, lost: &Crossing, station: u16) -> bool
+fn leads_to_lost(net: &Net, lost: &Branch, station: u16) -> bool
     requires { station < station_count (table_of net.now) }
     ensures { result ≡ leads_to_lost (table_of net.now) (marked lost.now) station }
 {
@@ -62,11 +64,11 @@ fn leads_to_lost(net: &Net, lost: &Crossing, station: u16) -> bool
 }
 
 // Whether a station is labelled and has a link to a lost one.
-fn wakes(net: &Net, entries: &[u16], lost: &Crossing, station: u16) -> bool
+fn wakes(net: &Net, entries: &[u16], lost: &Branch, station: u16) -> bool
     requires { station < station_count (table_of net.now) }
     ensures { result ≡ wakes (table_of net.now) (marked lost.now) entries.now station }
 {
-    entry_of(entries, station) != UNLABELLED && leads_to_lost(net, lost, station)
+    labelled(entries, station) && leads_to_lost(net, lost, station)
 }
 
 // Enters the labelled stations with a link to a lost one, in rising number.
@@ -75,7 +77,7 @@ pub(crate) fn wake<K: Kind, L: CandidateList<K>>(
     labels: &[K::Label],
     entries: &[u16],
     list: &mut L,
-    lost: &Crossing,
+    lost: &Branch,
 ) -> Result<u16, BookFault>
     ensures { IsOkAnd result (λ n. Enters L.CandidateList list.old (woken (table_of net.now) (marked lost.now) entries.now (station_count (table_of net.now))) labels.now n list.new) }
 {

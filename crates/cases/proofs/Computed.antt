@@ -8,7 +8,7 @@ use Rattle.kinds.specs.Shipped.{by_airtime}
 use Rattle.net.specs.First.{first_below}
 use Rattle.net.specs.Table.{Table, tail_at}
 use Rattle.lists.specs.Meaning.{count_below}
-use Rattle.walks.specs.Walk.{walk, walk_end}
+use Rattle.walks.specs.Walk.{walk, walk_end, met_back}
 use Rattle.runs.specs.Calls.{Call, refuses}
 use Rattle.runs.specs.Scan.{after_links, links_acts, after_picks}
 use Rattle.runs.specs.Law.{Event, Run, new_book}
@@ -76,9 +76,9 @@ all-of [] r = tt
 all-of (c ∷ cs) r = (stands c r.0, all-of cs r.1)
 
 all-compute : AllCompute worked
-unfolding tail_at first_below next_from count_below walk walk_end after_links links_acts after_picks picks_within
+unfolding tail_at first_below next_from count_below walk walk_end met_back after_links links_acts after_picks picks_within
 all-compute =
-    (refl, (refl, (refl, (refl, (refl, (refl, (refl, (refl, (refl, (refl, (refl, (refl, (refl, (refl, (refl, (refl, (refl, (refl, (refl, (refl, (refl, (refl, (refl, (refl, (refl, ((refl, (Astray, refuses refl, refl)), tt))))))))))))))))))))))))))
+    (refl, (refl, (refl, (refl, (refl, (refl, (refl, (refl, (refl, (refl, (refl, (refl, (refl, (refl, (refl, (refl, (refl, (refl, (refl, (refl, (refl, (refl, (refl, (refl, (refl, ((refl, (Astray, refuses refl, refl)), (refl, (refl, (refl, (refl, (refl, (refl, tt))))))))))))))))))))))))))))))))
 
 pub all-stand : AllStand worked
 all-stand = all-of worked all-compute

@@ -1,12 +1,13 @@
 -- The table of worked cases. Each row is a case with its outcome, and `Stands` says by the definitions what a row claims.
 use Rattle.std.specs.Prelude.{◌≡◌, ℕ, false, List, [], ◌∷◌, ◌++◌, map, reverse, replicate, length, ℤ, pos, negsuc, Some, None, Ok, Err, Option, Result, IsOkAnd, slice_set}
+use Rattle.std.specs.Option.{option_map}
 use Rattle.refusals.specs.declared.book.BookFault.{BookFault}
 use Rattle.refusals.specs.declared.book.BookFault.TheVariants.{Short}
 use Rattle.refusals.specs.declared.list.ListFault.{ListFault}
 use Rattle.refusals.specs.declared.list.ListFault.TheVariants.{Buckets}
 use Rattle.refusals.specs.declared.told.Layer.{Layer}
 use Rattle.refusals.specs.declared.told.Told.{Told}
-use Rattle.refusals.specs.Tells.{told_as, book_tells}
+use Rattle.refusals.specs.Tells.{told_as, book_tells, check_tells}
 use Rattle.kinds.specs.declared.airtime.Airtime.{Airtime}
 use Rattle.kinds.specs.Airtimes.{airtime_of, air_start, air_carry}
 use Rattle.kinds.specs.Chances.{chance_read, chance_carry}
@@ -15,7 +16,8 @@ use Rattle.net.specs.Table.{Table, table, station_count}
 use Rattle.kinds.specs.Shipped.{by_airtime}
 use Rattle.paths.specs.Simple.{simple_paths}
 use Rattle.walks.specs.Walk.{unlabelled, own}
-use Rattle.runs.specs.Plan.{plan}
+use Rattle.plans.specs.Faults.{first_fault}
+use Rattle.plans.specs.Plan.{plan}
 use Rattle.runs.specs.Calls.{Memory, Call, Does}
 use Rattle.runs.specs.Calls as book
 use Rattle.runs.specs.Law.{Event, event, Run}
@@ -45,6 +47,8 @@ pub data Case : Type 0 where
   run : Choice Airtime → Table → List ℕ → List (Event Airtime Airtime) → List ℕ → List ℕ → Case
   -- after such calls with their answers, the entry of a station is overwritten, and then a call is refused and told so
   overwritten : Choice Airtime → Table → List ℕ → List (Event Airtime Airtime) → ℕ → ℕ → Call Airtime → Told → Case
+  -- on this net with these airtimes and this gateway, the first fault of these labels and entries is told so, or they have none
+  checked : Table → List ℕ → ℕ → List ℕ → List ℕ → Option Told → Case
 
 -- what the picks among some steps answer
 abbrev pub answers : List Airtime → AnyModel Airtime Airtime → List Step → List (Option ℕ)
@@ -93,6 +97,8 @@ Stands (order c ls steps picks) = Answers (map airtime_of ls) (chosen by_airtime
 Stands (no_buckets width span) = chosen by_airtime (choice.Bucket width span) ≡ Err Buckets
 Stands (run c t grades events labels entries) = IsOkAnd (chosen by_airtime c) (RunsTo t grades events (EndsWith labels entries))
 Stands (overwritten c t grades events v e a told) = IsOkAnd (chosen by_airtime c) (RunsTo t grades events (λ u. Refuses t a told (with_entry u v e)))
+Stands (checked t grades gateway labels entries told) =
+    option_map check_tells (first_fault by_airtime t gateway (map airtime_of grades) (plan (map airtime_of labels) entries)) ≡ told
 
 -- four stations and five links: 0 to 1, 0 to 2, 1 to 3, 2 to 1, 2 to 3
 abbrev pub four_roofs : Table
@@ -109,6 +115,10 @@ works_out picks = event (book.start 0) book.started ∷ event (book.work 10) (bo
 -- one station and no link
 abbrev pub one_roof : Table
 one_roof = table (0 ∷ 0 ∷ []) []
+
+-- three stations and two links, from 1 to 2 and back
+abbrev pub roundabout : Table
+roundabout = table (0 ∷ 0 ∷ 1 ∷ 2 ∷ []) (2 ∷ 1 ∷ [])
 
 -- the labels of four stations
 abbrev pub four_labels : List ℕ
@@ -154,6 +164,12 @@ worked =
     ∷ run choice.FirstIn four_roofs roof_airtimes (works_out 6 ++ event (book.route 3 2) (book.refused (Short 3)) ∷ [])
     (0 ∷ 3 ∷ 1 ∷ 4 ∷ []) (65534 ∷ 3 ∷ 1 ∷ 2 ∷ [])
     ∷ overwritten choice.FirstIn four_roofs roof_airtimes (works_out 6) 1 own (book.route 3 10) (told_as 11 0 Layer.Book)
+    ∷ checked four_roofs roof_airtimes 0 (0 ∷ 3 ∷ 1 ∷ 4 ∷ []) (65534 ∷ 3 ∷ 1 ∷ 2 ∷ []) None
+    ∷ checked four_roofs roof_airtimes 4 (0 ∷ 3 ∷ 1 ∷ 4 ∷ []) (65534 ∷ 3 ∷ 1 ∷ 2 ∷ []) (Some (told_as 7 0 Layer.Check))
+    ∷ checked four_roofs roof_airtimes 0 (0 ∷ 3 ∷ 1 ∷ 4 ∷ []) (65535 ∷ 3 ∷ 1 ∷ 2 ∷ []) (Some (told_as 16 0 Layer.Check))
+    ∷ checked four_roofs roof_airtimes 0 (0 ∷ 3 ∷ 1 ∷ 5 ∷ []) (65534 ∷ 3 ∷ 1 ∷ 2 ∷ []) (Some (told_as 17 3 Layer.Check))
+    ∷ checked roundabout (0 ∷ 0 ∷ []) 0 (0 ∷ 5 ∷ 5 ∷ []) (65534 ∷ 1 ∷ 0 ∷ []) (Some (told_as 18 1 Layer.Check))
+    ∷ checked four_roofs roof_airtimes 0 (0 ∷ 4 ∷ 1 ∷ 5 ∷ []) (65534 ∷ 0 ∷ 1 ∷ 2 ∷ []) (Some (told_as 19 3 Layer.Check))
     ∷ []
 
 abbrev pub AllStand : List Case → Type 0

@@ -11,11 +11,11 @@ use refusals::told::{Fault, Layer};
 use std::test::Fail;
 
 // Four stations and five links, with their airtimes.
-const STARTS: [u16; 5] = [0, 2, 3, 5, 5];
+pub(crate) const STARTS: [u16; 5] = [0, 2, 3, 5, 5];
 
-const HEADS: [u16; 5] = [1, 2, 3, 1, 3];
+pub(crate) const HEADS: [u16; 5] = [1, 2, 3, 1, 3];
 
-const AIRTIMES: [u32; 5] = [4, 1, 1, 2, 5];
+pub(crate) const AIRTIMES: [u32; 5] = [4, 1, 1, 2, 5];
 
 // The list of this number.
 fn list_of(number: u8) -> Result<AnyList<ByAirtime>, Fail> {

@@ -11,10 +11,12 @@ pub fn worked_cases() -> u16
     ensures count { result ≡ length worked }
     ensures stand { AllStand worked }
 {
-    26
+    32
 }
 
 #[cfg(test)]
 mod book_tests;
+#[cfg(test)]
+mod check_tests;
 #[cfg(test)]
 mod tests;

@@ -47,7 +47,7 @@ fn kinds_carry(rt: HostRuntime) {
         ByMargin::carry(Margin::new(127), Margin::new(-128)).decibels(),
         -128
     );
-    assert_eq!(rt; worked_cases(), 26);
+    assert_eq!(rt; worked_cases(), 32);
 }
 
 #[test]

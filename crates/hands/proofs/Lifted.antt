@@ -4,7 +4,7 @@ use Rattle.kinds.specs.declared.kind.Kind.{Ghosts}
 use Rattle.lists.specs.Order.{Order}
 use Rattle.net.specs.Table.{Table, station_count}
 use Rattle.runs.specs.Acts.{Act, empties, enters, gives, Acted, Acts}
-use Rattle.runs.specs.Plan.{first_plan}
+use Rattle.plans.specs.Plan.{first_plan}
 use Rattle.runs.specs.Scan.{picks_acts}
 use Rattle.runs.specs.Regrade.{regrade_acts}
 use Rattle.runs.specs.Calls.{Memory, Call, start, work, regrade, ask, route, Answer, refusal, last_pick, Does, refuses, starts, works, regrades, asks, routes}

@@ -1,14 +1,17 @@
 -- What the commands on what a site holds come to, in any kind.
 use Rattle.std.specs.Prelude.{ℕ, ◌-◌, if◌then◌else◌, List, [], ◌∷◌, ◌++◌, length, take, map, replicate, Some, None, Ok, Err, Option, Result, nat_lt, slice_set}
+use Rattle.refusals.specs.declared.check.CheckFault.{CheckFault}
 use Rattle.refusals.specs.declared.list.ListFault.{ListFault}
 use Rattle.refusals.specs.declared.list.ListFault.TheVariants.{Station}
-use Rattle.refusals.specs.Tells.{list_tells, kind_tells}
+use Rattle.refusals.specs.Tells.{list_tells, kind_tells, check_tells}
 use Rattle.kinds.specs.declared.kind.Kind.{Ghosts}
+use Rattle.net.specs.Table.{Table}
 use Rattle.lists.specs.Meaning.{count_below}
 use Rattle.lists.specs.declared.list.Entered.{Entered}
 use Rattle.choice.specs.AnyOrder.{AnyModel, any_waiting, any_cleared, any_entering, any_picking}
 use Rattle.choice.specs.Choices.{choice_name, chosen}
 use Rattle.choice.specs.declared.make.Choice.{Choice}
+use Rattle.answers.specs.declared.answer.Answer.{Answer}
 use Rattle.answers.specs.declared.answer.Answer.TheVariants as answer
 use Rattle.answers.specs.declared.trouble.Trouble.{Trouble}
 use Rattle.answers.specs.declared.answer.Label.{Label}
@@ -25,7 +28,8 @@ use Rattle.hands.specs.declared.ask.Resizing.TheVariants as resizing
 use Rattle.hands.specs.declared.ask.NotAsked.{NotAsked}
 use Rattle.hands.specs.declared.ask.NotAsked.TheVariants.{Refused, Troubled}
 use Rattle.walks.specs.Walk.{unlabelled}
-use Rattle.runs.specs.Plan.{plan}
+use Rattle.plans.specs.Faults.{first_fault}
+use Rattle.plans.specs.Plan.{plan}
 use Rattle.hands.specs.Held.{HeldBy}
 
 -- the labels that are handed over: all, or the first so many
@@ -82,7 +86,17 @@ poked h (Ok (poking.Grade e)) = overwritten h.grades e NoGrade (with_grades h) h
 abbrev pub resized : {A : Type 0} → ℕ → A → List A → List A
 resized n x xs = take n xs ++ replicate (n - length xs) x
 
+-- what a check found
+abbrev pub check_answer : Option CheckFault → Answer
+check_answer None = answer.Checked
+check_answer (Some f) = answer.Refused (check_tells f)
+
 module _ {K L G : Type 0} (k : Ghosts K L G) where
+  -- `check`: the first fault of what is held, from the gateway that was read, or none; the book's own gateway, and whether it was started, are not asked
+  abbrev pub checked : Table → HeldBy L G → Result ℕ Trouble → Outcome (HeldBy L G)
+  checked t h (Err e) = troubled e h
+  checked t h (Ok gateway) = answered (check_answer (first_fault k t gateway h.grades h.plan)) h
+
   -- `resize`: a list has another length; it is filled with the start label, no entry, or grade 0
   abbrev pub resizes : G → HeldBy L G → Result Resizing Trouble → Outcome (HeldBy L G)
   resizes zero h (Err e) = troubled e h

@@ -36,7 +36,7 @@ and_then (Err e) f = Err e
 abbrev pub short_word : List ℕ → ℕ → Result ℕ Trouble
 short_word w k = word_read short_read Bounds.Short w k
 
--- `start`, `work` and `ask`: one number
+-- `start`, `work`, `ask` and `check`: one number
 abbrev pub number_asked : Shape → List (List ℕ) → Result ℕ Trouble
 number_asked u (_ ∷ x ∷ []) = short_word x 2
 number_asked u _ = Err (Usage u)

@@ -4,7 +4,7 @@ use Rattle.kinds.specs.declared.kind.Kind.{Ghosts}
 use Rattle.choice.specs.AnyOrder.{AnyModel, of_first_in}
 use Rattle.choice.specs.AnyModels.{any_model}
 use Rattle.walks.specs.Walk.{unlabelled}
-use Rattle.runs.specs.Plan.{plan}
+use Rattle.plans.specs.Plan.{plan}
 use Rattle.runs.specs.Calls.{Memory}
 use Rattle.book.specs.Memories.{memory}
 use Rattle.hands.specs.declared.holding.Holding.{Holding}

@@ -83,7 +83,7 @@ pub enum Resizing {
     Grades(u16),
 }
 
-// `start`, `work` and `ask`: one number.
+// `start`, `work`, `ask` and `check`: one number.
 pub fn number_asked(words: &[&[u8]], usage: Usage) -> Result<u16, Trouble>
     ensures { result ≡ number_asked usage (word_bytes words.now) }
 {

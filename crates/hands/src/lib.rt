@@ -8,3 +8,4 @@ pub mod fresh;
 pub mod holding;
 pub mod memory;
 pub mod obey;
+pub mod plan;

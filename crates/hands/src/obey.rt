@@ -59,6 +59,7 @@ where
             HeldVerb::Grades => self.take_grades(heap, words),
             HeldVerb::List => self.take_list(words),
             HeldVerb::Call(verb) => self.call(heap, net, words, verb),
+            HeldVerb::Check => self.check(net, words),
             HeldVerb::Labels => self.labels(heap, words),
             HeldVerb::Entries => self.entries(words),
             HeldVerb::Poke => self.poke(words),

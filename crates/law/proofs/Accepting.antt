@@ -1,17 +1,14 @@
 -- What a call that is not refused has passed.
-use Rattle.std.proofs.Common.{◌≡◌, ℕ, ◌<◌, Bool, true, false, if◌then◌else◌, Some, None, Option, refl}
+use Rattle.std.proofs.Common.{◌≡◌, ℕ, ◌<◌, true, None}
 use Rattle.std.proofs.lemmas.Bool.{and_parts, eqb-true, ltb-true}
 use Rattle.net.specs.Table.{Table, station_count, link_count}
-use Rattle.runs.specs.Calls.{Memory, start, work, regrade, graded, sized, refusal}
+use Rattle.plans.specs.Plan.{graded, sized}
+use Rattle.plans.proofs.Tests.{unless_none}
+use Rattle.runs.specs.Calls.{Memory, start, work, regrade, refusal}
 use Rattle.law.proofs.Invariant.{Sized}
 
--- a test that refuses nothing passes
-unless_none : {A : Type 0} (b : Bool) (f : A) (rest : Option A) → (if b then rest else Some f) ≡ None → (b ≡ true) × (rest ≡ None)
-unless_none true f rest e = (refl, e)
-unless_none false f rest e = absurd cc
-
 module _ {L G S : Type 0} (t : Table) (m : Memory L G S) where
-  tested-sized : graded t m ≡ true → sized t m ≡ true → Sized t m
+  tested-sized : graded t m.grades ≡ true → sized t m.plan ≡ true → Sized t m
   tested-sized h i =
       let p = and_parts _ _ i in
       record { labels_n = eqb-true _ _ p.0; entries_n = eqb-true _ _ p.1; grades_m = eqb-true _ _ h }

@@ -9,7 +9,7 @@ use Rattle.lists.specs.declared.list.CandidateList.{Ghosts as Candidates}
 use Rattle.net.specs.Table.{Table, station_count, link_count}
 use Rattle.paths.specs.Lists.{In}
 use Rattle.walks.specs.Walk.{unlabelled, entry_at, labelled, moves, walk, entry_path, crosses}
-use Rattle.runs.specs.Plan.{Plan, label_at}
+use Rattle.plans.specs.Plan.{Plan, label_at}
 use Rattle.runs.specs.Regrade.{spoils, cleared}
 use Rattle.runs.specs.Calls.{Memory, Regrades}
 use Rattle.runs.specs.Law.{KeptOrLost}

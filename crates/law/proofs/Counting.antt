@@ -1,9 +1,11 @@
--- How many stations wait, where one enters, where one leaves, and where all that wait are below a bound.
+-- How many stations wait, where one enters, where one leaves, and where all that wait are below a bound; and that none waits where their number is 0.
 use Rattle.std.proofs.Common.{◌≡◌, ℕ, zero, suc, ◌+◌, ◌<◌, ◌≤◌, Bool, true, false, not, ◌&&◌, ◌||◌, ◌==◌, sym, ap, ◌∙◌, inl, inr, arith}
 use Rattle.std.proofs.lemmas.Bool.{cases_eq, cases_Bool, cases_lt, cond-false, false_from_ne_true}
 use Rattle.std.proofs.lemmas.Bool.Decides.{nat_tests}
-use Rattle.lists.specs.Meaning.{count_below}
-use Rattle.lists.specs.Counts.{count_same, count_most, count-one}
+use Rattle.lists.specs.Meaning.{count_below, ListLaws}
+use Rattle.lists.specs.Counts.{count_same, count_most, count-one, none_from_count}
+use Rattle.lists.specs.declared.list.CandidateList.{Ghosts as Candidates}
+use Rattle.runs.specs.Acts.{waiting_in, AtRest}
 
 -- x enters, which may have waited
 pub count-entered : (f g : ℕ → Bool) (x n : ℕ) → ((j : ℕ) → g j ≡ (j == x || f j)) → count_below g n ≤ count_below f n + 1
@@ -43,3 +45,10 @@ count-bounded f m (suc n) h =
           let off : f n ≡ false = false_from_ne_true (f n) (λ e. omega (arith, h n e)) in
           omega (arith, count-bounded f m n h, cond-false {A = ℕ} (f n) 1 0 off)
     ]
+
+-- a list of which 0 stations wait is at rest
+pub rest_from_count : {S K L G : Type 0} (c : Candidates S K L G) → ListLaws c.waits c.emptied c.entered c.picked → (s : S) → waiting_in c s ≡ 0 → AtRest c s
+rest_from_count c lists s e v = elim (cases_Bool (c.waits s v)) [
+  | inl waits ↦ none_from_count (c.waits s) 1024 e v (lists.below s v waits)
+  | inr off ↦ off
+]

@@ -9,7 +9,7 @@ use Rattle.net.specs.Table.{Table, station_count, link_count, tail_at}
 use Rattle.paths.specs.Lists.{In}
 use Rattle.walks.specs.Walk.{labelled}
 use Rattle.runs.specs.Acts.{enters, Acts}
-use Rattle.runs.specs.Plan.{Plan}
+use Rattle.plans.specs.Plan.{Plan}
 use Rattle.runs.specs.Regrade.{spoils, entering}
 use Rattle.law.proofs.Invariant.{Fit}
 use Rattle.law.proofs.Fitting.{range-in}

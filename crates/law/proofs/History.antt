@@ -13,8 +13,8 @@ use Rattle.paths.specs.Simple.{meets, simple, simple_paths}
 use Rattle.paths.proofs.Listing.{listing}
 use Rattle.paths.proofs.Members.{map-in, nodup-map}
 use Rattle.paths.proofs.Passing.{Links, passing-simple}
+use Rattle.plans.proofs.Labels.{as_good-same, as_good-equal, carried-worse}
 use Rattle.law.proofs.Invariant.{Fit, View, Lab}
-use Rattle.law.proofs.Labels.{as_good-same, as_good-equal, carried-worse}
 use Rattle.law.proofs.Pigeons.{pigeons}
 use Rattle.law.proofs.Writing.{On, Takes, Wrote, better_there, head_lab, still_lab}
 

@@ -8,7 +8,7 @@ use Rattle.net.specs.Table.{Table, station_count, link_count, head_at, tail_at}
 use Rattle.paths.specs.Grade.{carried_over}
 use Rattle.paths.specs.Lists.{In}
 use Rattle.walks.specs.Walk.{entry_at, unlabelled, own}
-use Rattle.runs.specs.Plan.{Plan, label_at}
+use Rattle.plans.specs.Plan.{Plan, label_at}
 use Rattle.runs.specs.Scan.{links_of}
 use Rattle.runs.specs.Calls.{Memory}
 

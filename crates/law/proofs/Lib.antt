@@ -1,6 +1,5 @@
 pub mod Invariant
 pub mod Fitting
-pub mod Labels
 pub mod Trees
 pub mod Writing
 pub mod Pigeons

@@ -1,5 +1,5 @@
 -- The law of runs holds: what a run keeps, call by call, and what that promises.
-use Rattle.std.proofs.Common.{◌≡◌, ℕ, ◌+◌, ◌≤◌, true, false, List, length, Some, None, Option, refl, ◌∙◌, subst, arith}
+use Rattle.std.proofs.Common.{◌≡◌, ℕ, ◌+◌, ◌≤◌, true, false, List, length, Some, None, Option, refl, sym, ◌∙◌, subst, arith}
 use Rattle.std.proofs.lemmas.Bool.{both_ways}
 use Rattle.kinds.specs.declared.kind.Kind.{Ghosts as Kind}
 use Rattle.kinds.specs.Laws.{Laws}
@@ -7,10 +7,14 @@ use Rattle.lists.specs.Meaning.{ListLaws}
 use Rattle.lists.specs.declared.list.CandidateList.{Ghosts as Candidates}
 use Rattle.net.specs.Table.{Table, ForwardStar, station_count}
 use Rattle.paths.specs.Simple.{simple_paths}
+use Rattle.plans.specs.Faults.{first_fault}
+use Rattle.plans.proofs.Exact.{exact}
+use Rattle.runs.specs.Acts.{AtRest}
 use Rattle.runs.specs.Calls.{Memory, Call, start, work, regrade, Answer, started, worked, regraded, refusal, Starts, Works, Regrades, Does, refuses, starts, works, regrades, asks, routes}
-use Rattle.runs.specs.Law.{Event, picks_after, picks_since, gateway_after, gateway_since, BestPaths, Run, new_book, afresh, then_call, aside, KeepsLaw, Law}
+use Rattle.runs.specs.Law.{Event, picks_after, picks_since, gateway_after, gateway_since, SaysRest, Run, new_book, afresh, then_call, aside, KeepsLaw, Law}
 use Rattle.law.proofs.Invariant.{Fit, View, view}
 use Rattle.law.proofs.Fitting.{star_fit}
+use Rattle.law.proofs.Counting.{rest_from_count}
 use Rattle.law.proofs.Segments.{Seg, seg_few, fresh_seg}
 use Rattle.law.proofs.Picking.{work_kept, work_done}
 use Rattle.law.proofs.Accepting.{work_passed, regrade_passed}
@@ -31,6 +35,15 @@ module _ {S K L G : Type 0} (k : Kind K L G) (c : Candidates S K L G) (t : Table
   regraded-does : {m u : Memory L G S} {l lost new : ℕ} {x : G} → Does k c t m (regrade l x) (regraded lost new) u
       → (refusal t m (regrade l x) ≡ None) × Regrades k c t m l x lost new u
   regraded-does (regrades e r) = (e, r)
+
+  -- where work or a question answers that none waits, none does
+  rest-does : ListLaws c.waits c.emptied c.entered c.picked → {m u : Memory L G S} {a : Call G} {b : Answer L} → Does k c t m a b u → SaysRest b → AtRest c u.list
+  rest-does lists (refuses e) told = absurd told
+  rest-does lists (starts e s) told = absurd told
+  rest-does lists (works {u = u} e w) told = rest_from_count c lists u.list (sym w.left ∙ told)
+  rest-does lists (regrades e r) told = absurd told
+  rest-does lists (asks {m = m} e) told = rest_from_count c lists m.list told
+  rest-does lists (routes e) told = absurd told
 
   -- What every run keeps, where the last accepted start, if any, was from this gateway, and n picks were reported since it or a regrade.
   record Reach (u : Memory L G S) (gateway : Option ℕ) (n : ℕ) : Type 0 where
@@ -91,11 +104,16 @@ module _ {S K L G : Type 0} (k : Kind K L G) (c : Candidates S K L G) (t : Table
   keeps_law laws lists star {m} {u} {a} {b} d from log run =
       let fit = star_fit star in
       let reached = call-kept laws lists fit (gateway_since log) (picks_since log) (run-kept laws lists fit run) d in
+      let checks : (g : ℕ) → gateway_after b a (gateway_since log) ≡ Some g → AtRest c u.list → first_fault k t g u.grades u.plan ≡ None =
+      λ g is still.
+      let (on, at, seg) = reached.live g is in
+      subst (λ h. first_fault k t h u.grades u.plan ≡ None) at (rests k laws c t fit u seg.1.sized seg.1.inv still) in
       record {
-        best = λ g is still.
-            let (on, at, seg) = reached.live g is in
-            subst (λ h. BestPaths k t h u.grades u.plan) at (rests k c t fit u seg.1.sized seg.1.inv laws still);
+        recorded = λ g is. let (on, at, seg) = reached.live g is in (on, at);
+        best = λ g is still. ((exact k laws star g u.grades u.plan).0 (checks g is still)).paths;
+        checks = checks;
         few = few-kept laws lists fit star (gateway_after b a (gateway_since log)) reached;
+        rest = rest-does lists d;
         done = λ allowed made waiting asked told less.
             let did : Does k c t m (work allowed) (worked made waiting) u = rw (asked, told) at d in
             work_done k c t lists m allowed made waiting u (worked-does did) less;

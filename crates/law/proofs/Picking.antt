@@ -10,13 +10,13 @@ use Rattle.lists.specs.declared.list.CandidateList.{Ghosts as Candidates}
 use Rattle.net.specs.Table.{Table, link_count, tail_at}
 use Rattle.paths.specs.Lists.{In}
 use Rattle.walks.specs.Walk.{labelled, entry_at}
+use Rattle.plans.proofs.Labelled.{labelled_lab}
 use Rattle.runs.specs.Acts.{gives, Acts}
 use Rattle.runs.specs.Scan.{links_of, after_links, links_acts, after_pick, pick_acts, after_picks, picks_acts}
 use Rattle.runs.specs.Calls.{Memory, Works, last_pick}
 use Rattle.law.proofs.Invariant.{Fit, View, view, Lab}
 use Rattle.law.proofs.Counting.{count-left}
 use Rattle.law.proofs.Relaxing.{links_kept}
-use Rattle.law.proofs.Trees.{labelled_lab}
 use Rattle.law.proofs.Segments.{moved, memory_same, acts-parts, Part, Seg, same_waiting}
 
 -- the picks of work that answer stations, and then the one that answers nothing, if there is one

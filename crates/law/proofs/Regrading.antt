@@ -1,5 +1,5 @@
 -- A regrade that is not refused keeps sizes and the invariant, and only stations of the net wait.
-use Rattle.std.proofs.Common.{◌≡◌, ℕ, ◌<◌, true, false, ◌&&◌, [], length, None, slice_set, refl, sym, ap, ◌∙◌, subst, ◌⊎◌, inl, inr, arith, length-set}
+use Rattle.std.proofs.Common.{◌≡◌, ℕ, ◌<◌, true, false, [], length, None, slice_set, refl, sym, ap, ◌∙◌, subst, ◌⊎◌, inl, inr, arith, length-set}
 use Rattle.std.specs.List.{range_with_len}
 use Rattle.std.proofs.lemmas.Bool.{cases_Bool, cond-true, cond-false, cond_both, and_from}
 use Rattle.kinds.specs.declared.kind.Kind.{Ghosts as Kind}
@@ -7,9 +7,9 @@ use Rattle.lists.specs.Meaning.{ListLaws}
 use Rattle.lists.specs.declared.list.CandidateList.{Ghosts as Candidates}
 use Rattle.net.specs.Table.{Table, station_count, link_count, tail_at}
 use Rattle.paths.specs.Lists.{In}
-use Rattle.walks.specs.Walk.{labelled}
-use Rattle.runs.specs.Plan.{Plan}
-use Rattle.runs.specs.Regrade.{spoils, cleared, after_regrade, leads_to_loss, entering}
+use Rattle.walks.specs.Walk.{labelled, crosses}
+use Rattle.plans.specs.Plan.{Plan}
+use Rattle.runs.specs.Regrade.{spoils, cleared, after_regrade, leads_to_lost, wakes, entering}
 use Rattle.runs.specs.Calls.{Memory, regrade, refusal, Regrades}
 use Rattle.law.proofs.Invariant.{Fit, view_of, view, Sized, Inv}
 use Rattle.law.proofs.Fitting.{in-range}
@@ -36,9 +36,9 @@ module _ {S K L G : Type 0} (k : Kind K L G) (c : Candidates S K L G) (t : Table
 
   -- where labels are lost, the labelled stations with a link to one that lost its label enter
   edge-waits : spoils k t m.plan l x ≡ true → (v : ℕ) → v < station_count t → labelled (cleared k t m.plan l).entries v ≡ true
-      → leads_to_loss k t m.plan l v ≡ true → c.waits u.list v ≡ true
+      → leads_to_lost t (crosses t m.plan.entries l) v ≡ true → c.waits u.list v ≡ true
   edge-waits h v below here leads =
-      let test = λ (y : ℕ). labelled (cleared k t m.plan l).entries y && leads_to_loss k t m.plan l y in
+      let test = wakes t (crosses t m.plan.entries l) (cleared k t m.plan l).entries in
       let range = in-range 0 (station_count t) v (omega arith) (omega arith) in
       let enters = in_filter test (range_with_len 0 (station_count t)) v range (and_from _ _ here leads) in
       waiting v (inl (subst (λ vs. In v vs) (sym (cond-true _ _ _ h)) enters))

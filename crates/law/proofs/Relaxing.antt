@@ -1,6 +1,6 @@
 -- The links of a picked station, gone through one after the other, keep what holds of a stretch of calls.
 use Rattle.std.proofs.Common.{◌≡◌, ℕ, ◌<◌, ◌≢◌, Bool, true, false, if◌then◌else◌, not, ◌&&◌, ◌||◌, ◌==◌, List, [], ◌∷◌, Some, None, Option, refl, sym, ap, ◌∙◌, subst, inl, inr, arith, get_or-set_other, get_or-set_same, length-set}
-use Rattle.std.proofs.lemmas.Bool.{and_parts, and_cases, or_cases, or_parts, or_left, eq-eqb, eqb-true, eqb-false, ne_eqb, not-true, not-false, both_ways}
+use Rattle.std.proofs.lemmas.Bool.{and_parts, and_cases, or_cases, or_left, eq-eqb, eqb-true, eqb-false, ne_eqb, not-true, not-false, both_ways}
 use Rattle.kinds.specs.declared.kind.Kind.{Ghosts as Kind}
 use Rattle.kinds.specs.Laws.{Laws}
 use Rattle.kinds.specs.Order.{AtLeast}
@@ -9,15 +9,17 @@ use Rattle.lists.specs.declared.list.CandidateList.{Ghosts as Candidates}
 use Rattle.net.specs.Table.{Table, station_count, link_count, head_at, tail_at}
 use Rattle.paths.specs.Lists.{In}
 use Rattle.walks.specs.Walk.{unlabelled}
+use Rattle.plans.specs.Offers.{welcomes_offer}
+use Rattle.plans.specs.Plan.{written, label_at}
+use Rattle.plans.proofs.Comparing.{declined}
+use Rattle.plans.proofs.Labelled.{labelled_lab, lab_labelled}
 use Rattle.runs.specs.Acts.{enters, Acts}
-use Rattle.runs.specs.Plan.{written, label_at}
-use Rattle.runs.specs.Scan.{welcome, given, after_link, link_acts, after_links, links_acts}
+use Rattle.runs.specs.Scan.{given, after_link, link_acts, after_links, links_acts}
 use Rattle.runs.specs.Calls.{Memory}
 use Rattle.law.proofs.Invariant.{Fit, View, view, Sized, Lab, offer}
 use Rattle.law.proofs.Counting.{count-entered}
 use Rattle.law.proofs.History.{way, wrote_hist}
 use Rattle.law.proofs.Segments.{moved, acts-parts, Part}
-use Rattle.law.proofs.Trees.{labelled_lab, lab_labelled}
 use Rattle.law.proofs.Writing.{Served, Takes, Wrote, still_lab, wrote_inv, passed_inv}
 
 module _ {S K L G : Type 0} (k : Kind K L G) (c : Candidates S K L G) (t : Table)
@@ -25,7 +27,7 @@ module _ {S K L G : Type 0} (k : Kind K L G) (c : Candidates S K L G) (t : Table
   module _ (m : Memory L G S) (l : ℕ) (in_net : l < link_count t) (from : Lab k t (view k c m) (tail_at t l)) where
     -- what the link is tested by, once its offer is known
     abbrev test : Option L → Bool
-    test o = not (head_at t l == m.gateway) && welcome k t m.gateway m.grades m.plan (head_at t l) o
+    test o = not (head_at t l == m.gateway) && welcomes_offer k m.plan (head_at t l) o
 
     taken : (a : L) → offer k t (view k c m) l ≡ Some a → test (Some a) ≡ true → Takes k t (view k c m) l a
     taken a e h =
@@ -45,13 +47,8 @@ module _ {S K L G : Type 0} (k : Kind K L G) (c : Candidates S K L G) (t : Table
     passed a h d = elim (and_cases _ _ h) [
       | inl f ↦ absurd (d (eqb-true _ _ (not-false _ f)))
       | inr f ↦
-          let p = or_parts _ _ f in (
-            labelled_lab m.plan.entries (head_at t l) (not-false _ p.0),
-            elim (and_cases _ _ p.1) [
-              | inl b ↦ elim (laws.total a (label_at k m.plan (head_at t l))) [ inl e ↦ absurd (both_ways _ b e) | inr e ↦ e ]
-              | inr b ↦ not-false _ b
-            ],
-          )
+          let p = declined k laws m.plan (head_at t l) (Some a) a refl f in
+          (labelled_lab m.plan.entries (head_at t l) p.0, p.1)
     ]
 
     module _ (a : L) (q : S) (sized : Sized t m) (entered : c.entered m.list (head_at t l) (written m.plan (head_at t l) l a).labels q) where

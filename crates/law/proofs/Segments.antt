@@ -8,7 +8,7 @@ use Rattle.lists.specs.declared.list.CandidateList.{Ghosts as Candidates}
 use Rattle.net.specs.Table.{Table, ForwardStar, station_count, tail_at}
 use Rattle.paths.specs.Simple.{simple_paths}
 use Rattle.runs.specs.Acts.{Act, Acts}
-use Rattle.runs.specs.Plan.{Plan}
+use Rattle.plans.specs.Plan.{Plan}
 use Rattle.runs.specs.Calls.{Memory}
 use Rattle.law.proofs.Invariant.{View, view, Sized, Inv}
 use Rattle.law.proofs.Counting.{count-bounded}

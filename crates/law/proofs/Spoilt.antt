@@ -7,13 +7,13 @@ use Rattle.lists.specs.declared.list.CandidateList.{Ghosts as Candidates}
 use Rattle.net.specs.Table.{Table, station_count, link_count, head_at, tail_at}
 use Rattle.paths.specs.Grade.{carried_over}
 use Rattle.walks.specs.Walk.{own, entry_at, labelled, crosses}
-use Rattle.runs.specs.Plan.{label_at}
+use Rattle.plans.specs.Plan.{label_at}
+use Rattle.plans.proofs.Labels.{as_good_at}
+use Rattle.plans.proofs.Labelled.{lab_labelled}
 use Rattle.runs.specs.Scan.{links_of}
-use Rattle.runs.specs.Regrade.{spoils, cleared, leads_to_loss}
+use Rattle.runs.specs.Regrade.{spoils, cleared, leads_to_lost}
 use Rattle.runs.specs.Calls.{Memory}
 use Rattle.law.proofs.Invariant.{Fit, View, view_of, view, Sized, Lab, offer, Tree, Inv}
-use Rattle.law.proofs.Labels.{as_good_at}
-use Rattle.law.proofs.Trees.{lab_labelled}
 use Rattle.law.proofs.Walks.{walk_is}
 use Rattle.law.proofs.Among.{none-in, slice_get-set_other}
 use Rattle.law.proofs.Clearing.{gone-entry, kept-label, kept-entry}
@@ -23,7 +23,7 @@ module _ {S K L G : Type 0} (k : Kind K L G) (c : Candidates S K L G) (t : Table
     (s : S) (kept_waits : (v : ℕ) → c.waits m.list v ≡ true → c.waits s v ≡ true)
     (spoilt : spoils k t m.plan l x ≡ true)
     (edge_waits : (v : ℕ) → v < station_count t → labelled (cleared k t m.plan l).entries v ≡ true
-    → leads_to_loss k t m.plan l v ≡ true → c.waits s v ≡ true) where
+    → leads_to_lost t (crosses t m.plan.entries l) v ≡ true → c.waits s v ≡ true) where
   -- what is seen afterwards
   abbrev cut : View L G
   cut = view_of k c m.gateway (slice_set m.grades l x) (cleared k t m.plan l) s
@@ -84,7 +84,7 @@ module _ {S K L G : Type 0} (k : Kind K L G) (c : Candidates S K L G) (t : Table
   no-link : (j : ℕ) → j < link_count t → Lab k t cut (tail_at t j) → c.waits s (tail_at t j) ≡ false → gone (head_at t j) ≡ false
   no-link j jm h w =
       let here : labelled (cleared k t m.plan l).entries (tail_at t j) ≡ true = lab_labelled (cleared k t m.plan l).entries (tail_at t j) h in
-      let none : leads_to_loss k t m.plan l (tail_at t j) ≡ false =
+      let none : leads_to_lost t (crosses t m.plan.entries l) (tail_at t j) ≡ false =
       false_from_ne_true _ (λ e. both_ways _ w (edge_waits (tail_at t j) (fit.leaves j jm) here e)) in
       none-in (λ i. gone (head_at t i)) (links_of t (tail_at t j)) j none (fit.all j jm)
 

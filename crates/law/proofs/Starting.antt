@@ -9,7 +9,7 @@ use Rattle.lists.specs.Meaning.{ListLaws}
 use Rattle.lists.specs.declared.list.CandidateList.{Ghosts as Candidates}
 use Rattle.net.specs.Table.{Table, station_count, link_count, tail_at}
 use Rattle.walks.specs.Walk.{unlabelled, own}
-use Rattle.runs.specs.Plan.{first_plan}
+use Rattle.plans.specs.Plan.{first_plan}
 use Rattle.runs.specs.Calls.{Memory, Starts, start, refusal}
 use Rattle.law.proofs.Invariant.{Fit, view, Sized, Lab, Inv}
 use Rattle.law.proofs.Accepting.{start_passed}

@@ -1,24 +1,16 @@
 -- The way by entries from a station back to the gateway: there is one at most, it repeats no station, and it leads from the gateway.
-use Rattle.std.proofs.Common.{◌≡◌, ℕ, ◌<◌, ◌≤◌, ◌≢◌, true, List, [], ◌∷◌, length, sym, refl, ap, ap₂, ◌∙◌, subst, inl, inr, arith}
+use Rattle.std.proofs.Common.{◌≡◌, ℕ, ◌<◌, ◌≤◌, List, [], ◌∷◌, length, sym, refl, ap, ap₂, ◌∙◌, subst, inl, inr, arith}
 use lib.ListN.{length-map}
-use Rattle.std.proofs.lemmas.Bool.{not-true, not_from_false, eqb-false, ne_eqb}
 use Rattle.kinds.specs.declared.kind.Kind.{Ghosts as Kind}
 use Rattle.net.specs.Table.{Table, station_count, tail_at}
 use Rattle.paths.specs.Lists.{In, NoDup}
 use Rattle.paths.proofs.Members.{few-below}
 use Rattle.paths.proofs.Turned.{Comes, met_on}
-use Rattle.walks.specs.Walk.{own, unlabelled, entry_at, labelled}
+use Rattle.walks.specs.Walk.{own, unlabelled}
 use Rattle.law.proofs.Invariant.{Fit, View, Lab, Tree}
 
--- the test of an entry, and what it tests
-pub labelled_lab : (entries : List ℕ) (v : ℕ) → labelled entries v ≡ true → entry_at entries v ≢ unlabelled
-labelled_lab entries v h e = eqb-false _ _ (not-true _ h) e
-
-pub lab_labelled : (entries : List ℕ) (v : ℕ) → entry_at entries v ≢ unlabelled → labelled entries v ≡ true
-lab_labelled entries v h = not_from_false _ (ne_eqb _ _ h)
-
 module _ {K L G : Type 0} (k : Kind K L G) (t : Table) (s : View L G) where
-  pub same-tree : (p q : List ℕ) (v : ℕ) → Tree k t s p v → Tree k t s q v → p ≡ q
+  same-tree : (p q : List ℕ) (v : ℕ) → Tree k t s p v → Tree k t s q v → p ≡ q
   same-tree [] [] v h j = refl
   same-tree [] (l ∷ q) v h j = absurd (j.0 h)
   same-tree (l ∷ p) [] v h j = absurd (h.0 j)
@@ -27,7 +19,7 @@ module _ {K L G : Type 0} (k : Kind K L G) (t : Table) (s : View L G) where
       ap₂ (λ x xs. x ∷ xs) e (same-tree p q (tail_at t l) h.5 (subst (λ i. Tree k t s q (tail_at t i)) (sym e) j.5))
 
   -- a station met on the way has a way of its own, no longer
-  pub tree-from : (p : List ℕ) (v x : ℕ) → Tree k t s p v → In x (met_on t p v) → (q : List ℕ) × Tree k t s q x × (length q ≤ length p)
+  tree-from : (p : List ℕ) (v x : ℕ) → Tree k t s p v → In x (met_on t p v) → (q : List ℕ) × Tree k t s q x × (length q ≤ length p)
   tree-from p v x h (inl e) = (p, subst (λ y. Tree k t s p y) (sym e) h, omega arith)
   tree-from [] v x h (inr i) = elim i [ ]
   tree-from (l ∷ p) v x h (inr i) = let r = tree-from p (tail_at t l) x h.5 i in (r.0, r.1, omega arith)
@@ -48,7 +40,7 @@ module _ {K L G : Type 0} (k : Kind K L G) (t : Table) (s : View L G) where
   tree-comes (l ∷ p) v h = (h.2, h.3, tree-comes p (tail_at t l) h.5)
 
   module _ (fit : Fit t) (gate : s.gw < station_count t) where
-    pub tree-station : (p : List ℕ) (v : ℕ) → Tree k t s p v → v < station_count t
+    tree-station : (p : List ℕ) (v : ℕ) → Tree k t s p v → v < station_count t
     tree-station [] v h = subst (λ y. y < station_count t) (sym h) gate
     tree-station (l ∷ p) v h = subst (λ y. y < station_count t) h.3 (fit.lands l h.2)
 

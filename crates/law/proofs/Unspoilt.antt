@@ -7,11 +7,11 @@ use Rattle.lists.specs.declared.list.CandidateList.{Ghosts as Candidates}
 use Rattle.net.specs.Table.{Table, link_count, head_at, tail_at}
 use Rattle.paths.specs.Grade.{carried_over}
 use Rattle.walks.specs.Walk.{entry_at, labelled}
-use Rattle.runs.specs.Plan.{label_at}
+use Rattle.plans.specs.Plan.{label_at}
+use Rattle.plans.proofs.Labelled.{lab_labelled}
 use Rattle.runs.specs.Regrade.{spoils}
 use Rattle.runs.specs.Calls.{Memory}
 use Rattle.law.proofs.Invariant.{Fit, View, view_of, view, Sized, Lab, offer, Tree, Inv}
-use Rattle.law.proofs.Trees.{lab_labelled}
 use Rattle.law.proofs.Among.{slice_get-set_same, slice_get-set_other}
 
 module _ {S K L G : Type 0} (k : Kind K L G) (c : Candidates S K L G) (t : Table) (fit : Fit t) (m : Memory L G S) (sized : Sized t m)

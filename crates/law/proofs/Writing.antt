@@ -7,9 +7,9 @@ use Rattle.kinds.specs.Order.{AtLeast}
 use Rattle.net.specs.Table.{Table, station_count, link_count, head_at, tail_at}
 use Rattle.paths.specs.Grade.{carried_over}
 use Rattle.walks.specs.Walk.{own}
+use Rattle.plans.proofs.Labels.{as_good-equal, carried-worse, carried-better}
 use Rattle.law.proofs.Invariant.{Fit, View, Lab, offer, Tree, Inv}
 use Rattle.law.proofs.Trees.{tree_lab}
-use Rattle.law.proofs.Labels.{as_good-equal, carried-worse, carried-better}
 
 -- x is on p, which ends at v
 abbrev pub On : Table → ℕ → List ℕ → ℕ → Type 0

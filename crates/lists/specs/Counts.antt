@@ -1,7 +1,7 @@
 -- How many numbers pass a test.
 use Rattle.std.specs.Prelude.{◌≡◌, ℕ, zero, suc, ◌+◌, ◌<◌, ◌≤◌, Bool, true, false, cond, ◌||◌, ◌==◌, refl}
 use Rattle.std.proofs.Common.{ap, ◌∙◌, ⊎_elim, arith}
-use Rattle.std.proofs.lemmas.Bool.{cases_eq, cases_Bool, eq-eqb, ne_eqb, cond-true, cond-false}
+use Rattle.std.proofs.lemmas.Bool.{cases_eq, cases_Bool, eq-eqb, ne_eqb, cond-true, cond-false, false_from_ne_true}
 use Rattle.lists.specs.Meaning.{count_below}
 
 pub count_same : (f g : ℕ → Bool) (n : ℕ) → ((k : ℕ) → k < n → f k ≡ g k) → count_below f n ≡ count_below g n
@@ -19,6 +19,16 @@ count_none f (suc n) h =
     let here = cond-false {A = ℕ} (f n) 1 0 (h n) in
     let below = count_none f n h in
     omega arith
+
+-- where none is counted, none of them passes
+pub none_from_count : (f : ℕ → Bool) (n : ℕ) → count_below f n ≡ 0 → (k : ℕ) → k < n → f k ≡ false
+unfolding count_below
+none_from_count f zero e k l = absurd (omega arith)
+none_from_count f (suc n) e k l =
+    ⊎_elim
+    (λ (last : k ≡ n). ap f last ∙ false_from_ne_true (f n) (λ on. omega (arith, e, cond-true {A = ℕ} (f n) 1 0 on)))
+    (λ (ne : k ≡ n → ⊥). none_from_count f n (omega (arith, e)) k (omega arith))
+    (cases_eq k n)
 
 pub count_most : (f : ℕ → Bool) (n : ℕ) → count_below f n ≤ n
 unfolding count_below

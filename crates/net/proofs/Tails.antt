@@ -82,6 +82,10 @@ module _ {t : Table} (star : ForwardStar t) where
   pub tail-not : (l s : ℕ) → l < link_count t → (Leaves t l s → ⊥) → eqb (tail_at t l) s ≡ false
   tail-not l s h other = ne_eqb _ _ (λ e. other (subst (λ x. Leaves t l x) e (tail-leaves l h)))
 
+  -- the links of a station end where there are links at most
+  pub first_link-below : (s : ℕ) → s ≤ station_count t → first_link t s ≤ link_count t
+  first_link-below s h = omega (arith, star.last, rises t.starts star.rising s (station_count t) 0 h (omega (arith, star.some)))
+
   -- every head is a station
   pub lands : (l : ℕ) → l < link_count t → head_at t l < station_count t
   lands l h = omega (arith, star.within l h)

@@ -25,6 +25,7 @@ The plan from a gateway:
   regrade <link> <grade>         a new grade; answers labels lost, stations new to the list
   ask <station>                  its label and entry, or none; then stations waiting
   route <station> <places>       the links of its route, if there are so many places
+  check <gateway>                whether labels and entries are a tree of best paths from there
 
 The memory by hand (handed: only the first so many labels are handed over to the list):
 

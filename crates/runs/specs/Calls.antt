@@ -1,5 +1,5 @@
 -- The calls of a book: what each tests, answers and does to the memory, by the rules.
-use Rattle.std.specs.Prelude.{◌≡◌, ℕ, ◌≤◌, Bool, true, if◌then◌else◌, not, ◌&&◌, List, [], ◌∷◌, ◌++◌, filter, length, Some, None, Option, ◌==◌, nat_lt, nat_le, slice_set}
+use Rattle.std.specs.Prelude.{◌≡◌, ℕ, ◌≤◌, Bool, true, if◌then◌else◌, not, List, [], ◌∷◌, ◌++◌, filter, length, Some, None, Option, nat_lt, nat_le, slice_set}
 use Rattle.refusals.specs.declared.book.BookFault.{BookFault}
 use Rattle.refusals.specs.declared.book.BookFault.TheVariants as fault
 use Rattle.kinds.specs.declared.kind.Kind.{Ghosts as Kind}
@@ -7,7 +7,8 @@ use Rattle.net.specs.Table.{Table, station_count, link_count}
 use Rattle.lists.specs.declared.list.CandidateList.{Ghosts as Candidates}
 use Rattle.walks.specs.Walk.{labelled, entry_path, comes_home}
 use Rattle.runs.specs.Acts.{Act, empties, enters, gives, Acts, waiting_in}
-use Rattle.runs.specs.Plan.{Plan, first_plan, known}
+use Rattle.plans.specs.Plan.{Plan, graded, sized, first_plan, known}
+use Rattle.plans.specs.Tests.{unless}
 use Rattle.runs.specs.Scan.{after_picks, picks_acts}
 use Rattle.runs.specs.Regrade.{after_regrade, regrade_acts, entering, lost_by}
 
@@ -36,27 +37,16 @@ pub data Answer (L : Type 0) : Type 0 where
   routed : List ℕ → Answer L
   refused : BookFault → Answer L
 
--- a test that refuses where it fails, and the tests after it
-abbrev pub unless : Bool → BookFault → Option BookFault → Option BookFault
-unless passes f rest = if passes then rest else Some f
-
 module _ {L G S : Type 0} (t : Table) (m : Memory L G S) where
-  -- one grade per link; one label and one entry per station
-  abbrev pub graded : Bool
-  graded = length m.grades == link_count t
-
-  abbrev pub sized : Bool
-  sized = length m.plan.labels == station_count t && length m.plan.entries == station_count t
-
   -- The first test that fails, or none. By their numbers: start tests 5, 6, 7; work 5, 6, 8; regrade 5, 6, 8, 9; ask 6, 8, 7; route 6, 8, 7, 10, 11, 12.
   abbrev pub refusal : Call G → Option BookFault
-  refusal (start g) = unless graded fault.Grades (unless sized fault.Stations (unless (nat_lt g (station_count t)) fault.NoStation None))
-  refusal (work n) = unless graded fault.Grades (unless sized fault.Stations (unless m.started fault.NotStarted None))
+  refusal (start g) = unless (graded t m.grades) fault.Grades (unless (sized t m.plan) fault.Stations (unless (nat_lt g (station_count t)) fault.NoStation None))
+  refusal (work n) = unless (graded t m.grades) fault.Grades (unless (sized t m.plan) fault.Stations (unless m.started fault.NotStarted None))
   refusal (regrade l x) =
-      unless graded fault.Grades (unless sized fault.Stations (unless m.started fault.NotStarted (unless (nat_lt l (link_count t)) fault.NoLink None)))
-  refusal (ask v) = unless sized fault.Stations (unless m.started fault.NotStarted (unless (nat_lt v (station_count t)) fault.NoStation None))
+      unless (graded t m.grades) fault.Grades (unless (sized t m.plan) fault.Stations (unless m.started fault.NotStarted (unless (nat_lt l (link_count t)) fault.NoLink None)))
+  refusal (ask v) = unless (sized t m.plan) fault.Stations (unless m.started fault.NotStarted (unless (nat_lt v (station_count t)) fault.NoStation None))
   refusal (route v places) =
-      unless sized fault.Stations (unless m.started fault.NotStarted (unless (nat_lt v (station_count t)) fault.NoStation
+      unless (sized t m.plan) fault.Stations (unless m.started fault.NotStarted (unless (nat_lt v (station_count t)) fault.NoStation
       (unless (labelled m.plan.entries v) fault.Unlabelled (unless (comes_home t m.plan.entries m.gateway v) fault.Astray
       (unless (nat_le (length (entry_path t m.plan.entries v)) places) (fault.Short (length (entry_path t m.plan.entries v))) None)))))
 

@@ -1,17 +1,16 @@
 -- The law of runs: what is promised after any row of calls over a new book.
-use Rattle.std.specs.Prelude.{◌≡◌, ℕ, ◌+◌, ◌<◌, ◌≤◌, true, false, List, [], ◌∷◌, length, Some, None, Option, ◌⊎◌, IsSomeAnd}
+use Rattle.std.specs.Prelude.{◌≡◌, ℕ, ◌+◌, ◌<◌, ◌≤◌, true, false, List, [], ◌∷◌, length, Some, None, Option, ◌⊎◌}
 use Rattle.kinds.specs.declared.kind.Kind.{Ghosts as Kind}
-use Rattle.kinds.specs.Order.{AtLeast}
 use Rattle.lists.specs.declared.list.CandidateList.{Ghosts as Candidates}
 use Rattle.net.specs.Table.{Table, station_count}
-use Rattle.paths.specs.Grade.{path_grade}
 use Rattle.paths.specs.Lists.{In}
-use Rattle.paths.specs.Path.{Leads}
 use Rattle.paths.specs.Simple.{simple_paths}
 use Rattle.refusals.specs.declared.book.BookFault.{BookFault}
-use Rattle.walks.specs.Walk.{own, entry_at, labelled, entry_path}
+use Rattle.walks.specs.Walk.{entry_at, labelled, entry_path}
+use Rattle.plans.specs.Best.{BestPaths}
+use Rattle.plans.specs.Faults.{first_fault}
+use Rattle.plans.specs.Plan.{label_at}
 use Rattle.runs.specs.Acts.{AtRest}
-use Rattle.runs.specs.Plan.{Plan, label_at}
 use Rattle.runs.specs.Calls.{Memory, Call, start, work, regrade, Answer, started, worked, regraded, asked, routed, refused, refusal, Does}
 
 -- a call and its answer; in a log of them the newest stands first
@@ -52,16 +51,14 @@ abbrev pub gateway_since : {L G : Type 0} → List (Event L G) → Option ℕ
 gateway_since [] = None
 gateway_since (e ∷ earlier) = gateway_after e.answer e.call (gateway_since earlier)
 
-module _ {K L G : Type 0} (k : Kind K L G) (t : Table) (gateway : ℕ) (grades : List G) (p : Plan L) where
-  -- Each station has the best of its paths from the gateway.
-  pub record BestPaths : Type 0 where
-    pub gate : entry_at p.entries gateway ≡ own
-    -- the entry path of a labelled station leads to it from the gateway, and its grade is the station's label
-    pub path : (v : ℕ) → labelled p.entries v ≡ true → Leads t gateway (entry_path t p.entries v) v
-    pub grade : (v : ℕ) → labelled p.entries v ≡ true → path_grade k grades (entry_path t p.entries v) ≡ Some (label_at k p v)
-    -- a station to which a path leads is labelled, and its label is at least as good as the path's grade, so no path to it is better
-    pub found : (v : ℕ) (way : List ℕ) → Leads t gateway way v → labelled p.entries v ≡ true
-    pub best : (v : ℕ) (way : List ℕ) → Leads t gateway way v → IsSomeAnd (path_grade k grades way) (λ x. AtLeast k (label_at k p v) x)
+-- the answer says that no station waits
+abbrev pub SaysRest : {L : Type 0} → Answer L → Type 0
+SaysRest started = ⊥
+SaysRest (worked made waiting) = waiting ≡ 0
+SaysRest (regraded lost new) = ⊥
+SaysRest (asked what waiting) = waiting ≡ 0
+SaysRest (routed links) = ⊥
+SaysRest (refused f) = ⊥
 
 module _ {S K L G : Type 0} (k : Kind K L G) (c : Candidates S K L G) (t : Table) where
   -- From one memory to the other by the calls of this log, with their answers, and nothing else wrote to the memory on the way.
@@ -84,10 +81,16 @@ module _ {S K L G : Type 0} (k : Kind K L G) (c : Candidates S K L G) (t : Table
 
   -- What is promised of a run whose last call, with its answer, led from memory m to memory u, after those of the log.
   pub record Promise (m : Memory L G S) (a : Call G) (b : Answer L) (earlier : List (Event L G)) (u : Memory L G S) : Type 0 where
+    -- the book records the last accepted start
+    pub recorded : (g : ℕ) → gateway_since (event a b ∷ earlier) ≡ Some g → (u.started ≡ true) × (u.gateway ≡ g)
     -- at rest, every station has the best of its paths from the gateway of the last accepted start, by the grades of that moment
     pub best : (g : ℕ) → gateway_since (event a b ∷ earlier) ≡ Some g → AtRest c u.list → BestPaths k t g u.grades u.plan
+    -- and the check finds no fault in them
+    pub checks : (g : ℕ) → gateway_since (event a b ∷ earlier) ≡ Some g → AtRest c u.list → first_fault k t g u.grades u.plan ≡ None
     -- since the last accepted start or regrade no more picks were reported than there are stations and simple paths
     pub few : picks_since (event a b ∷ earlier) ≤ station_count t + length (simple_paths t)
+    -- where work or a question answers that none waits, none does
+    pub rest : SaysRest b → AtRest c u.list
     -- work that reports fewer picks than it was allowed leaves no station waiting
     pub done : (allowed made waiting : ℕ) → a ≡ work allowed → b ≡ worked made waiting → made < allowed → (waiting ≡ 0) × AtRest c u.list
     -- a regrade takes labels only from stations whose entry path ran over its link just before, and the others keep label and entry

@@ -1,4 +1,3 @@
-pub mod Plan
 pub mod Acts
 pub mod ActsLemmas
 pub mod Scan

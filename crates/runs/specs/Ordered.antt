@@ -7,7 +7,7 @@ use Rattle.lists.specs.Order.{Order, waits_by, emptied_by, entered_by, picked_by
 use Rattle.lists.specs.declared.list.CandidateList.{Ghosts as Candidates}
 use Rattle.walks.specs.Walk.{entry_path}
 use Rattle.runs.specs.Acts.{Act, empties, enters, gives, waiting_in}
-use Rattle.runs.specs.Plan.{Plan, first_plan, known}
+use Rattle.plans.specs.Plan.{Plan, first_plan, known}
 use Rattle.runs.specs.Scan.{after_pick, pick_acts, after_picks}
 use Rattle.runs.specs.Regrade.{after_regrade, regrade_acts, entering, lost_by}
 use Rattle.runs.specs.Calls.{Memory, Call, start, work, regrade, ask, route, Answer, started, worked, regraded, asked, routed, refused, refusal}

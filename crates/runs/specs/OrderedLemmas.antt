@@ -10,7 +10,7 @@ use Rattle.lists.specs.declared.list.CandidateList.{Ghosts as Candidates}
 use Rattle.walks.specs.Walk.{labelled}
 use Rattle.runs.specs.Acts.{Act, empties, enters, gives, Acts}
 use Rattle.runs.specs.ActsLemmas.{acts-append}
-use Rattle.runs.specs.Plan.{Plan, first_plan}
+use Rattle.plans.specs.Plan.{Plan, first_plan}
 use Rattle.runs.specs.Scan.{links_of, takes, after_link, link_acts, links_acts, after_pick, pick_acts, after_picks, picks_acts}
 use Rattle.runs.specs.Regrade.{after_regrade, regrade_acts, entering}
 use Rattle.runs.specs.Calls.{Memory, Call, start, work, regrade, ask, route, Answer, Does, refuses, starts, works, regrades, asks, routes, refusal, last_pick}

@@ -1,30 +1,21 @@
 -- Work on a plan, given the stations that the candidate list answers: what is written, and what is asked of the list on the way.
-use Rattle.std.specs.Prelude.{ℕ, ◌+◌, ◌-◌, Bool, false, if◌then◌else◌, not, ◌&&◌, ◌||◌, List, [], ◌∷◌, ◌++◌, Some, None, Option, ◌==◌}
+use Rattle.std.specs.Prelude.{ℕ, ◌+◌, ◌-◌, Bool, if◌then◌else◌, not, ◌&&◌, List, [], ◌∷◌, ◌++◌, Some, None, Option, ◌==◌}
 use Rattle.std.specs.List.{range_with_len}
 use Rattle.kinds.specs.declared.kind.Kind.{Ghosts}
 use Rattle.net.specs.Table.{Table, first_link, head_at}
-use Rattle.paths.specs.Grade.{through}
 use Rattle.walks.specs.Walk.{labelled}
+use Rattle.plans.specs.Offers.{offered, welcomes_offer}
+use Rattle.plans.specs.Plan.{Plan, written}
 use Rattle.runs.specs.Acts.{Act, enters, gives}
-use Rattle.runs.specs.Plan.{Plan, written, label_at, better}
 
 -- the links of station x in their order
 abbrev pub links_of : Table → ℕ → List ℕ
 links_of t x = range_with_len (first_link t x) (first_link t (x + 1) - first_link t x)
 
 module _ {K L G : Type 0} (k : Ghosts K L G) (t : Table) (gateway : ℕ) (grades : List G) where
-  -- the label of station x carried over link l, or none where the link has no grade
-  abbrev pub offered : Plan L → ℕ → ℕ → Option L
-  offered p x l = through k grades (Some (label_at k p x)) l
-
-  -- station v takes this label: it has none yet, or a worse one
-  abbrev pub welcome : Plan L → ℕ → Option L → Bool
-  welcome p v None = false
-  welcome p v (Some a) = not (labelled p.entries v) || better k a (label_at k p v)
-
   -- the head of link l, which leaves station x, takes what it is offered; links into the gateway are passed over
   abbrev pub takes : Plan L → ℕ → ℕ → Bool
-  takes p x l = not (head_at t l == gateway) && welcome p (head_at t l) (offered p x l)
+  takes p x l = not (head_at t l == gateway) && welcomes_offer k p (head_at t l) (offered k grades p x l)
 
   -- the plan once the head of link l has what it is offered
   abbrev pub given : Plan L → ℕ → Option L → Plan L
@@ -33,7 +24,7 @@ module _ {K L G : Type 0} (k : Ghosts K L G) (t : Table) (gateway : ℕ) (grades
 
   -- one link of station x
   abbrev pub after_link : Plan L → ℕ → ℕ → Plan L
-  after_link p x l = if takes p x l then given p l (offered p x l) else p
+  after_link p x l = if takes p x l then given p l (offered k grades p x l) else p
 
   -- the head enters once its label is written
   abbrev pub link_acts : Plan L → ℕ → ℕ → List (Act L)

@@ -1,66 +1,57 @@
--- When the backward walk from a station meets a link: it moves over it, or to a station from which it meets it.
-use Rattle.std.proofs.Common.{◌≡◌, ℕ, zero, suc, ◌<◌, ◌≤◌, Bool, true, ◌||◌, eqb, List, get_or, refl, inl, inr, arith}
+-- When the backward walk from a station meets a link: it comes to the one station from which it moves over the link, in a move less.
+use Rattle.std.proofs.Common.{◌≡◌, ℕ, zero, suc, ◌-◌, Bool, true, false, eqb, List, refl, sym, subst, inl, inr, arith}
 use Rattle.std.specs.List.{list_any}
-use Rattle.std.proofs.lemmas.Bool.{cases_Bool, eq-eqb, eqb-true, or_cases, or_left, or_right}
-use Rattle.net.specs.Table.{Table, tail_at}
-use Rattle.walks.specs.Walk.{entry_at, moves, walk}
-use Rattle.walks.specs.Search.{MovesOver, MovesTo, Reached}
+use Rattle.std.proofs.lemmas.Bool.{cases_Bool, cases_eq, eq-eqb, ne_eqb}
+use Rattle.net.specs.Table.{Table, ForwardStar, station_count}
+use Rattle.walks.specs.Walk.{entry_at, moves, walk, met_back, crosses, comes}
+use Rattle.walks.specs.Search.{MovesOver}
+use Rattle.walks.proofs.Searching.{moves_over-one}
+use Rattle.walks.proofs.Coming.{comes_there}
 
 module _ (t : Table) (entries : List ℕ) (l : ℕ) where
   -- in at most k moves
-  abbrev pub meets : ℕ → ℕ → Bool
+  abbrev meets : ℕ → ℕ → Bool
   meets k v = list_any (λ j. eqb j l) (walk t entries k v)
 
-  meets_none : (v : ℕ) → meets 0 v ≡ true → ⊥
+  pub meets-none : ((v : ℕ) → MovesOver t entries l v → ⊥) → (k v : ℕ) → meets k v ≡ false
   unfolding walk
-  meets_none v met = absurd cc
-
-  -- a walk that meets the link moves, over it or to a station from which it meets it in a move less
-  meets-parts : (k v : ℕ) → meets (suc k) v ≡ true
-      → (moves t entries v ≡ true) × ((eqb (entry_at entries v) l || meets k (tail_at t (entry_at entries v))) ≡ true)
-  unfolding walk
-  meets-parts k v met =
+  meets-none nowhere zero v = refl
+  meets-none nowhere (suc k) v =
       elim (cases_Bool (moves t entries v)) [
-        | inl on ↦ (on, rw on at met)
-        | inr still ↦ let none = rw still at met in absurd cc
+        | inl on ↦ rw (on, ne_eqb _ _ (λ is. nowhere v (on, is))) (meets-none nowhere k _)
+        | inr still ↦ rw still
       ]
 
-  meets_over : (k v : ℕ) → MovesOver t entries l v → meets (suc k) v ≡ true
-  unfolding walk
-  meets_over k v over = rw over.0 (or_left _ _ (eq-eqb _ _ over.1))
+  module _ (h : ℕ) (over : MovesOver t entries l h) where
+    -- from h itself the walk moves over the link at once
+    meets-here : (k v : ℕ) → v ≡ h → meets (suc k) v ≡ comes t entries h k v
+    unfolding walk
+    meets-here k v here = rw (here, over.0, eq-eqb (entry_at entries h) l over.1) (sym (comes_there t entries h k h refl))
 
-  meets_to : (k v u : ℕ) → MovesTo t entries v u → meets k u ≡ true → meets (suc k) v ≡ true
-  unfolding walk
-  meets_to k v u to met = rw (to.0, to.1) (or_right _ _ met)
+    -- from another station over another link
+    not_over : (v : ℕ) → (v ≡ h → ⊥) → moves t entries v ≡ true → eqb (entry_at entries v) l ≡ false
+    not_over v other on = ne_eqb _ _ (λ is. other (moves_over-one t entries l v h (on, is) over))
 
-  -- what it meets in k moves it meets in more
-  pub meets_more : (k j v : ℕ) → k ≤ j → meets k v ≡ true → meets j v ≡ true
-  meets_more zero j v few met = absurd (meets_none v met)
-  meets_more (suc k) zero v few met = absurd (omega arith)
-  meets_more (suc k) (suc j) v few met =
-      let (on, parts) = meets-parts k v met in
-      elim (or_cases _ _ parts) [
-        | inl here ↦ meets_over j v (on, eqb-true _ _ here)
-        | inr later ↦ meets_to j v _ (on, refl) (meets_more k j _ (omega arith) later)
-      ]
+    meets-comes : (k v : ℕ) → meets (suc k) v ≡ comes t entries h k v
+    unfolding walk met_back
+    meets-comes zero v =
+        elim (cases_eq v h) [
+          | inl here ↦ meets-here 0 v here
+          | inr other ↦ elim (cases_Bool (moves t entries v)) [
+            | inl on ↦ rw (on, not_over v other on, ne_eqb v h other)
+            | inr still ↦ rw (still, ne_eqb v h other)
+          ]
+        ]
+    meets-comes (suc k) v =
+        elim (cases_eq v h) [
+          | inl here ↦ meets-here (suc k) v here
+          | inr other ↦ elim (cases_Bool (moves t entries v)) [
+            | inl on ↦ rw (on, not_over v other on, ne_eqb v h other) (meets-comes k _)
+            | inr still ↦ rw (still, ne_eqb v h other)
+          ]
+        ]
 
-  -- the first station of the queue moves over the link: the one at place i meets it in at most i + 1 moves
-  pub place_meets : (m : ℕ → Bool) (q : List ℕ) (count : ℕ) → Reached t entries m q count → (0 < count → MovesOver t entries l (get_or q 0 0))
-      → (b i : ℕ) → i < b → i < count → meets (suc i) (get_or q i 0) ≡ true
-  place_meets m q count reached begins zero i l r = absurd (omega arith)
-  place_meets m q count reached begins (suc b) zero l r = meets_over 0 (get_or q 0 0) (begins r)
-  place_meets m q count reached begins (suc b) (suc i) l r =
-      let (j, before, to) = reached.moved (suc i) (omega arith) r in
-      meets_to (suc i) (get_or q (suc i) 0) (get_or q j 0) to
-      (meets_more (suc j) (suc i) _ (omega arith) (place_meets m q count reached begins b j (omega arith) (omega arith)))
-
-  -- where the stations are marked whose walk moves over the link, and those whose walk moves to one that is marked, all are that meet it
-  pub meets_marked : (m : ℕ → Bool) → ((v : ℕ) → MovesOver t entries l v → m v ≡ true) → ((u v : ℕ) → m u ≡ true → MovesTo t entries v u → m v ≡ true)
-      → (k v : ℕ) → meets k v ≡ true → m v ≡ true
-  meets_marked m over to zero v met = absurd (meets_none v met)
-  meets_marked m over to (suc k) v met =
-      let (on, parts) = meets-parts k v met in
-      elim (or_cases _ _ parts) [
-        | inl here ↦ over v (on, eqb-true _ _ here)
-        | inr later ↦ to (tail_at t (entry_at entries v)) v (meets_marked m over to k _ later) (on, refl)
-      ]
+  pub crosses-comes : ForwardStar t → (h : ℕ) → MovesOver t entries l h → (v : ℕ) → crosses t entries l v ≡ comes t entries h (station_count t - 1) v
+  crosses-comes star h over v =
+      let all : suc (station_count t - 1) ≡ station_count t = omega (arith, star.some) in
+      subst (λ k. meets k v ≡ comes t entries h (station_count t - 1) v) all (meets-comes h over (station_count t - 1) v)

@@ -1,8 +1,8 @@
 -- What the search keeps when a station joins, and which stations are marked when the links of one are gone through.
 use Rattle.std.proofs.Common.{◌≡◌, ℕ, ◌+◌, ◌<◌, ◌≤◌, Bool, true, ◌||◌, eqb, ltb, List, length, get_or, set, sym, ap, ◌∙◌, subst, inl, inr, arith, get_or-set_same, get_or-set_other}
 use Rattle.std.proofs.lemmas.Bool.{cases_lt, eq-eqb, eqb-true, ltb-true, and_parts, or_cases, or_left, or_right}
-use Rattle.net.specs.Table.{Table, ForwardStar, Leaves, link_count, head_at, tail_at}
-use Rattle.net.proofs.Tails.{tail-is, tail-leaves}
+use Rattle.net.specs.Table.{Table, ForwardStar, Leaves, station_count, link_count, head_at, tail_at}
+use Rattle.net.proofs.Tails.{tail-is, tail-leaves, lands}
 use Rattle.walks.specs.Walk.{entry_at, moves}
 use Rattle.walks.specs.Search.{MovesOver, MovesTo, Reached, Kept}
 
@@ -20,6 +20,12 @@ moves_over-one t entries k v w over over' =
     sym p.1 ∙ ap (head_at t) (over.1 ∙ sym over'.1) ∙ q.1
 
 module _ {t : Table} (star : ForwardStar t) (entries : List ℕ) where
+  -- the walk moves from stations of the net alone
+  pub moves-station : (v : ℕ) → moves t entries v ≡ true → v < station_count t
+  moves-station v on =
+      let parts = moves-parts t entries v on in
+      subst (λ x. x < station_count t) parts.1 (lands star _ parts.0)
+
   -- the link is one of those of the station to which the walk moves
   pub moves_to-leaves : (v u : ℕ) → MovesTo t entries v u → Leaves t (entry_at entries v) u
   moves_to-leaves v u to = subst (λ x. Leaves t (entry_at entries v) x) to.1 (tail-leaves star (entry_at entries v) (moves-parts t entries v to.0).0)

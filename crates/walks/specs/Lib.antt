@@ -1,3 +1,3 @@
 pub mod Walk
-pub mod Crossings
+pub mod Branches
 pub mod Search

@@ -1,4 +1,4 @@
--- The search for the stations whose backward walk meets a link: what its marks and its queue keep.
+-- The search for the stations whose backward walk comes to a station, its root: what its marks and its queue keep.
 use Rattle.std.specs.Prelude.{◌≡◌, ℕ, ◌<◌, ◌≤◌, Bool, true, List, slice_index}
 use Rattle.net.specs.Table.{Table, tail_at}
 use Rattle.walks.specs.Walk.{entry_at, moves}

@@ -1,5 +1,5 @@
 -- The backward walk: from a station by its entry link to the link's tail, and on from there. The entries may hold anything.
-use Rattle.std.specs.Prelude.{ℕ, zero, suc, Bool, if◌then◌else◌, not, ◌&&◌, List, [], ◌∷◌, reverse, ◌==◌, nat_lt, slice_index_or}
+use Rattle.std.specs.Prelude.{ℕ, zero, suc, Bool, if◌then◌else◌, not, ◌&&◌, List, [], ◌∷◌, reverse, Some, None, Option, ◌==◌, nat_lt, slice_index_or}
 use Rattle.std.specs.List.{list_any}
 use Rattle.net.specs.Table.{Table, station_count, link_count, head_at, tail_at}
 
@@ -22,6 +22,10 @@ module _ (t : Table) (entries : List ℕ) where
   abbrev pub moves : ℕ → Bool
   moves v = nat_lt (entry_at entries v) (link_count t) && head_at t (entry_at entries v) == v
 
+  -- the station to which the walk moves from v, if it moves
+  abbrev pub before : ℕ → Option ℕ
+  before v = if moves v then Some (tail_at t (entry_at entries v)) else None
+
   -- the links of the walk from v in at most k moves, the last link of the way first
   unfoldable pub walk : ℕ → ℕ → List ℕ
   walk zero v = []
@@ -39,6 +43,19 @@ module _ (t : Table) (entries : List ℕ) where
   -- the backward walk from v meets link l
   abbrev pub crosses : ℕ → ℕ → Bool
   crosses l v = list_any (λ k. k == l) (walk (station_count t) v)
+
+  -- the stations that the walk from v meets in at most k moves, v first
+  unfoldable pub met_back : ℕ → ℕ → List ℕ
+  met_back zero v = v ∷ []
+  met_back (suc k) v = v ∷ (if moves v then met_back k (tail_at t (entry_at entries v)) else [])
+
+  -- the backward walk from v comes to station x in at most k moves
+  abbrev pub comes : ℕ → ℕ → ℕ → Bool
+  comes x k v = list_any (λ u. u == x) (met_back k v)
+
+  -- the backward walk from v meets station x
+  abbrev pub passes : ℕ → ℕ → Bool
+  passes x v = comes x (station_count t) v
 
   -- the backward walk from v stops at the gateway, with the gateway's own entry
   abbrev pub comes_home : ℕ → ℕ → Bool

@@ -1,6 +1,8 @@
-// The backward walk by entry links: its links, where it ends, and which stations' walks meet a link.
+// The backward walk by entry links: its moves and links, where it ends, and which stations' walks come to a station or meet a link.
 #![tactic(auto)]
 
-pub mod crossing;
+pub mod before;
+pub mod branch;
+mod entered;
 pub mod entry;
 pub mod walk;

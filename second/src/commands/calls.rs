@@ -289,7 +289,7 @@ mod tests {
         check_from(
             "net 0 0 /\n",
             "start\nstart 0 0\nwork x y\nregrade 0\nask\nroute 0\nroute 0 0 0\n\
-             start -1\nwork 65536\nregrade 65536 x\nregrade 0 x\nask x\nroute x y\nroute 0 y\ncheck 0",
+             start -1\nwork 65536\nregrade 65536 x\nregrade 0 x\nask x\nroute x y\nroute 0 y\nchecks 0",
             &[
                 "error line 2: start takes <gateway>",
                 "error line 3: start takes <gateway>",

@@ -1,13 +1,11 @@
 // Asking after a station.
-ghost use Rattle.std.specs.Prelude.{◌≡◌, ℕ, ◌<◌, [], length, if◌then◌else◌, Some, None, MatchResult};
+ghost use Rattle.std.specs.Prelude.{◌≡◌, ℕ, ◌<◌, [], length, Some, None, MatchResult};
 ghost use Rattle.net.specs.View.{table_of};
-ghost use Rattle.walks.specs.Walk.{entry_at, labelled};
-ghost use Rattle.runs.specs.Plan.{plan, label_at};
+ghost use Rattle.plans.specs.Plan.{plan, known};
 ghost use Rattle.runs.specs.Calls.{refusal, Does};
 ghost use Rattle.runs.specs.Calls as calls;
 ghost use Rattle.runs.specs.Law.{KeepsLaw};
-ghost use Rattle.book.specs.Memories.{memory, seen};
-ghost use Rattle.book.specs.Answers.{reached_told, ask_told};
+ghost use Rattle.book.specs.Memories.{memory, seen, reached_told, ask_told};
 
 use crate::asked::{Asked, Reached};
 use crate::book::Book;
@@ -17,20 +15,19 @@ use kinds::kind::Kind;
 use lists::list::CandidateList;
 use net::star::Net;
 use refusals::book::BookFault;
-use walks::entry::{UNLABELLED, entry_of};
+use walks::entry::{entry_of, labelled};
 
 // What is known of a station.
 fn reached<K: Kind>(labels: &[K::Label], entries: &[u16], station: u16) -> Option<Reached<K::Label>>
     requires { station < length labels.now }
-    ensures { reached_told result ≡ (if labelled entries.now station then Some (label_at K.Kind (plan labels.now entries.now) station, entry_at entries.now station) else None) }
+    ensures { reached_told result ≡ known K.Kind (plan labels.now entries.now) station }
 {
-    let entry = entry_of(entries, station);
-    if entry == UNLABELLED {
+    if !labelled(entries, station) {
         return None;
     }
     Some(Reached {
         label: labels[station as usize],
-        entry,
+        entry: entry_of(entries, station),
     })
 }
 

@@ -3,7 +3,7 @@ ghost use Rattle.std.specs.Prelude.{◌≡◌, ◌<◌, true, false, not, ◌&&�
 ghost use Rattle.net.specs.Table.{station_count, link_count, head_at, tail_at};
 ghost use Rattle.net.specs.View.{table_of};
 ghost use Rattle.refusals.specs.declared.book.BookFault.TheVariants as fault;
-ghost use Rattle.runs.specs.Plan.{plan, label_at};
+ghost use Rattle.plans.specs.Plan.{plan, label_at};
 ghost use Rattle.runs.specs.Calls.{refusal, Does};
 ghost use Rattle.runs.specs.Calls as calls;
 ghost use Rattle.runs.specs.Law.{KeepsLaw};
@@ -18,7 +18,7 @@ use kinds::kind::Kind;
 use lists::list::CandidateList;
 use net::star::Net;
 use refusals::book::BookFault;
-use walks::crossing::search::crossing;
+use walks::branch::search::crossing;
 use walks::entry::entry_of;
 
 // The tail and the head of a link.

@@ -14,14 +14,14 @@ use kinds::kind::Kind;
 use lists::list::CandidateList;
 use net::star::Net;
 use refusals::book::BookFault;
-use walks::entry::{OWN, UNLABELLED, entry_of};
+use walks::entry::{OWN, entry_of, labelled};
 use walks::walk::walk_back;
 
 // The station has a label.
 fn reached(entries: &[u16], station: u16) -> Result<(), BookFault>
     ensures { Tested result fault.Unlabelled (labelled entries.now station) }
 {
-    if entry_of(entries, station) == UNLABELLED {
+    if !labelled(entries, station) {
         return Err(BookFault::Unlabelled);
     }
     Ok(())

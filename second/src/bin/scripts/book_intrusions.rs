@@ -14,9 +14,7 @@ impl Script {
             book.station(&mut self.dice)
         };
         let links = book.links();
-        let into: Vec<usize> = (0..links)
-            .filter(|&link| book.net.heads[link] == station)
-            .collect();
+        let into = book.net.links_into(station);
         let entry = match self.dice.below(10) {
             0 => 65534,
             1 | 2 => 65535,

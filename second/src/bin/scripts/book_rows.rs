@@ -30,7 +30,7 @@ impl Book {
     }
 
     pub fn links(&self) -> usize {
-        self.net.heads.len()
+        self.net.links()
     }
 
     pub fn station(&self, dice: &mut Dice) -> usize {

@@ -61,6 +61,42 @@ impl Kind {
         }
     }
 
+    pub fn top_rank(self) -> usize {
+        match self {
+            Kind::Airtime => 4294967295,
+            Kind::Chance => 65536,
+            Kind::Margin => 255,
+        }
+    }
+
+    /// The label of that rank.
+    pub fn ranked(self, rank: usize) -> i64 {
+        let rank = rank.min(self.top_rank()) as i64;
+        match self {
+            Kind::Airtime => rank,
+            Kind::Chance => 65536 - rank,
+            Kind::Margin => 127 - rank,
+        }
+    }
+
+    pub fn rank(self, label: i64) -> usize {
+        let rank = match self {
+            Kind::Airtime => label,
+            Kind::Chance => 65536 - label,
+            Kind::Margin => 127 - label,
+        };
+        rank as usize
+    }
+
+    /// The label carried over a link of that grade, which may be one that a list of grades holds.
+    pub fn carry(self, label: i64, grade: i64) -> i64 {
+        match self {
+            Kind::Airtime => (label + grade).min(4294967295),
+            Kind::Chance => label * grade.min(65536) / 65536,
+            Kind::Margin => label.min(grade),
+        }
+    }
+
     /// A word that is no grade of this kind.
     pub fn wrong(self, dice: &mut Dice) -> &'static str {
         let any = [

@@ -67,7 +67,7 @@ route 600 0
 ";
 
 impl Script {
-    fn grade_line(&mut self, grades: &[i64]) {
+    pub fn grade_line(&mut self, grades: &[i64]) {
         let mut words = vec!["grades".to_string()];
         words.extend(grades.iter().map(i64::to_string));
         self.line(&words);

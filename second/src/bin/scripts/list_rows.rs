@@ -13,26 +13,6 @@ pub const LISTS: [&str; 5] = [
     "bucket",
 ];
 
-impl Kind {
-    fn top_rank(self) -> usize {
-        match self {
-            Kind::Airtime => 4294967295,
-            Kind::Chance => 65536,
-            Kind::Margin => 255,
-        }
-    }
-
-    /// The label of that rank.
-    fn ranked(self, rank: usize) -> i64 {
-        let rank = rank.min(self.top_rank()) as i64;
-        match self {
-            Kind::Airtime => rank,
-            Kind::Chance => 65536 - rank,
-            Kind::Margin => 127 - rank,
-        }
-    }
-}
-
 /// What the generator knows of a site whose list is at work.
 struct Desk {
     stations: usize,

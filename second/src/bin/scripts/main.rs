@@ -4,15 +4,21 @@ mod book_intrusions;
 mod book_lines;
 mod book_rows;
 mod book_rules;
+mod check_damage;
+mod check_lines;
+mod check_rows;
+mod check_rules;
 mod dice;
 mod kind;
 mod large_books;
+mod large_checks;
 mod list_lines;
 mod list_rows;
 mod list_rules;
 mod net;
 mod opening;
 mod path_rows;
+mod plan;
 mod script;
 
 use dice::Dice;
@@ -24,6 +30,7 @@ use std::process::ExitCode;
 const ESTATE: &str = include_str!("../../../../examples/estate.site");
 const LISTS: &str = include_str!("../../../../examples/lists.site");
 const BOOK: &str = include_str!("../../../../examples/book.site");
+const CHECK: &str = include_str!("../../../../examples/check.site");
 const EXAMPLE: &str = include_str!("../../../../examples/script.site");
 
 fn main() -> ExitCode {
@@ -70,6 +77,16 @@ fn main() -> ExitCode {
     script.text(LISTS);
     script.text(BOOK);
     script.text(EXAMPLE);
+    script.text(CHECK);
+    script.text(check_lines::LINES);
+    script.text(check_rules::LINES);
+    script.text("\n# Checks at random.\n");
+    script.check_rows(5, 7);
+    script.text("\n# Checks where labels stay the same on the way.\n");
+    script.even_checks(11, 24);
+    script.text("\n# Checks of large plans.\n");
+    script.large_checks();
+    script.large_check_shapes();
     script.text("\n# The last line has no line feed.\n");
     script.text("net 0 2 3 5 5 / 1 2 3 1 3\ngrades 4 1 1 2 5\npath 1 3 2");
     match io::stdout().lock().write_all(&script.bytes) {

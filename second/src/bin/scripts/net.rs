@@ -77,6 +77,21 @@ impl Net {
         self.starts.len() - 1
     }
 
+    pub fn links(&self) -> usize {
+        self.heads.len()
+    }
+
+    pub fn tail(&self, link: usize) -> usize {
+        self.starts.partition_point(|&start| start <= link) - 1
+    }
+
+    /// The links into a station.
+    pub fn links_into(&self, station: usize) -> Vec<usize> {
+        (0..self.links())
+            .filter(|&link| self.heads[link] == station)
+            .collect()
+    }
+
     /// A real walk of at most that many links, from anywhere.
     pub fn walk(&self, dice: &mut Dice, most: usize) -> Vec<usize> {
         let mut walk = Vec::new();

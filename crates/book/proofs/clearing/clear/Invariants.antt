@@ -1,4 +1,4 @@
-use Rattle.walks.specs.Crossings.{marked}
+use Rattle.walks.specs.Branches.{marked}
 use Rattle.walks.specs.Walk.{unlabelled}
 use Rattle.book.proofs.Wiping.{Wiped}
 use Rattle.book.proofs.clearing.clear.Given as goal

@@ -1,7 +1,7 @@
 use Rattle.std.proofs.Common.{refl, arith}
 use Rattle.std.proofs.lemmas.List.{get_or_read}
 use Rattle.net.proofs.Tails.{star_of}
-use Rattle.runs.specs.Plan.{plan}
+use Rattle.plans.specs.Plan.{plan}
 use Rattle.book.proofs.Scans.{labelled-is, underway-first, underway-home, underway-offer, underway-last}
 use Rattle.book.proofs.scan.scan.Goals as goal
 

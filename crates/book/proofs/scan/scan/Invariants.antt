@@ -1,5 +1,5 @@
 use Rattle.net.specs.View.{table_of}
-use Rattle.runs.specs.Plan.{plan}
+use Rattle.plans.specs.Plan.{plan}
 use Rattle.book.proofs.Scans.{Underway}
 use Rattle.book.proofs.scan.scan.Given as goal
 

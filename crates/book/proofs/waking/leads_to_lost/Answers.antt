@@ -1,10 +1,9 @@
 use Rattle.std.proofs.Common.{◌+◌, refl, sym, ◌∙◌}
 use Rattle.net.specs.Table.{head_at}
 use Rattle.net.specs.View.{table_of}
-use Rattle.net.proofs.Tails.{star_of}
-use Rattle.walks.specs.Crossings.{marked}
+use Rattle.net.proofs.Tails.{star_of, first_link-below}
+use Rattle.walks.specs.Branches.{marked}
 use Rattle.book.proofs.Losing.{any-found, any-later}
-use Rattle.book.proofs.Scans.{first_link-below}
 use Rattle.book.proofs.waking.leads_to_lost.Goals as goal
 
 pub loop-link-init : goal.loop-link-init

@@ -3,8 +3,8 @@ use Rattle.std.proofs.Common.{◌≡◌, ◌≤◌}
 use Rattle.std.specs.List.{list_any}
 use Rattle.net.specs.Table.{link_count, head_at}
 use Rattle.net.specs.View.{table_of}
-use Rattle.walks.specs.Crossings.{marked}
-use Rattle.book.specs.Losses.{leads_to_lost}
+use Rattle.walks.specs.Branches.{marked}
+use Rattle.runs.specs.Regrade.{leads_to_lost}
 use Rattle.book.proofs.Scans.{left_in}
 use Rattle.book.proofs.waking.leads_to_lost.Given as goal
 

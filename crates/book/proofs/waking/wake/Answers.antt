@@ -1,8 +1,8 @@
 use Rattle.std.proofs.Common.{ℕ, ◌<◌, Bool, arith}
 use Rattle.net.specs.View.{table_of}
 use Rattle.net.proofs.Tails.{star_of}
-use Rattle.walks.specs.Crossings.{marked}
-use Rattle.book.specs.Losses.{wakes}
+use Rattle.walks.specs.Branches.{marked}
+use Rattle.runs.specs.Regrade.{wakes}
 use Rattle.book.proofs.Entering.{passed-enters, passed-over}
 use Rattle.book.proofs.waking.wake.Goals as goal
 use Rattle.book.proofs.waking.wake.Goals.{then-wakes+in_ok-new, else-wakes}

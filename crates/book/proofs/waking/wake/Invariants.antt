@@ -1,6 +1,6 @@
 use Rattle.net.specs.View.{table_of}
-use Rattle.walks.specs.Crossings.{marked}
-use Rattle.book.specs.Losses.{wakes}
+use Rattle.walks.specs.Branches.{marked}
+use Rattle.runs.specs.Regrade.{wakes}
 use Rattle.book.proofs.Entering.{Passed}
 use Rattle.book.proofs.waking.wake.Given as goal
 

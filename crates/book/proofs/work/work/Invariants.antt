@@ -1,5 +1,5 @@
 use Rattle.net.specs.View.{table_of}
-use Rattle.runs.specs.Plan.{plan}
+use Rattle.plans.specs.Plan.{plan}
 use Rattle.book.proofs.Picks.{Picked}
 use Rattle.book.proofs.work.work.Given as goal
 

@@ -27,6 +27,11 @@ returns-in-route c =
     let h = text_from_reads c.args.word.now (codes "route") (omega arith) (omega arith, (omega arith, (omega arith, (omega arith, (omega arith, tt))))) in
     rw h
 
+pub returns-in-check : goal.returns-in-check
+returns-in-check c =
+    let h = text_from_reads c.args.word.now (codes "check") (omega arith) (omega arith, (omega arith, (omega arith, (omega arith, (omega arith, tt))))) in
+    rw h
+
 pub returns-in-labels : goal.returns-in-labels
 returns-in-labels c =
     let h = text_from_reads c.args.word.now (codes "labels") (omega arith) (omega arith, (omega arith, (omega arith, (omega arith, (omega arith, (omega arith, tt)))))) in

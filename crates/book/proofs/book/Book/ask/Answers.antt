@@ -1,7 +1,7 @@
 use Rattle.std.proofs.Common.{refl}
 use Rattle.net.proofs.Tails.{star_of}
 use Rattle.law.proofs.Main.{keeps_law}
-use Rattle.book.specs.Answers.{ask_told}
+use Rattle.book.specs.Memories.{ask_told}
 use Rattle.book.proofs.Answered.{does-refused}
 use Rattle.book.proofs.Doing.{asks-by}
 use Rattle.book.proofs.book.Book.ask.Goals as goal

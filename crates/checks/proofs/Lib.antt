@@ -1,0 +1,4 @@
+pub mod Accepting
+pub mod Faultless
+pub mod Handing
+pub mod Improving

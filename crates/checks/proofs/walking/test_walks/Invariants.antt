@@ -1,0 +1,8 @@
+-- The stations that have been gone through are unlabelled, or their walks meet the gateway.
+use Rattle.net.specs.View.{table_of}
+use Rattle.plans.specs.Faults.{walk_fault}
+use Rattle.checks.proofs.Faultless.{NoneBelow}
+use Rattle.checks.proofs.walking.test_walks.Given as goal
+
+abbrev pub invariant-loop-station : goal.invariant-loop-station
+invariant-loop-station l = NoneBelow (walk_fault (table_of l.net) l.gateway l.entries) l.station

@@ -1,0 +1,11 @@
+pub mod Labels
+pub mod Labelled
+pub mod Tests
+pub mod Grades
+pub mod Homeward
+pub mod Sound
+pub mod Leading
+pub mod Paths
+pub mod Comparing
+pub mod Told
+pub mod Exact

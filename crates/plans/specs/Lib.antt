@@ -1,0 +1,5 @@
+pub mod Plan
+pub mod Offers
+pub mod Best
+pub mod Tests
+pub mod Faults
