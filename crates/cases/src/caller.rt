@@ -20,7 +20,7 @@ use net::star::Net;
 use refusals::book::BookFault;
 use refusals::check::CheckFault;
 
-// How many picks a plan took, how many stations still wait, and whether it passed the check.
+// How many picks a plan took, how many stations still wait, and what the check answered.
 #[derive(Clone, Copy, Debug, PartialEq, Eq)]
 pub struct Planned {
     pub picks: u16,
@@ -29,8 +29,8 @@ pub struct Planned {
 }
 
 // Starts a new book from a gateway, works, and checks the plan.
-// It is refused exactly where the start is, with that refusal, and then labels, entries and list are as they were: work after an accepted start
-// is never refused. Otherwise its start and its work, with the picks and the waiting stations that it tells, are a run of the new book, and
+// It is refused exactly where the start is, with that refusal, since work after an accepted start is never refused; then labels, entries and
+// list are as they were. Otherwise its start and its work, with the picks and the waiting stations that it tells, are a run of the new book, and
 // `checked` tells the first fault of the plan, or none. Where none waits, every station has the best of its paths, and the check finds no fault.
 // None waits where it took fewer picks than it was allowed.
 pub fn plan_from<K: Kind, L: CandidateList<K>>(
