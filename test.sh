@@ -1,8 +1,9 @@
 #!/bin/sh
 # Passes all tests: the second planner, its own tests and the answers that it writes anew; then the proofs, the must-fail edits, the programs, the tests
-# and the layout of the crates. It fails where rt ci does, and where a must-fail edit no longer fits. The last line is 'N passed, 0 failed'.
+# and the layout of the crates; and then the program once more, on bad input. It fails where rt ci does, where a must-fail edit no longer fits, and where bad
+# input is not met as it should be. The last line is 'N passed, 0 failed'.
 set -eu
-cd "$(dirname "$0")"
+cd "$(dirname "$(readlink -f "$0")")"
 
 # The second planner needs a Rust compiler, which is no part of Rattle's toolchain.
 if ! command -v cargo >/dev/null; then
@@ -27,3 +28,11 @@ if ! grep -q '^rt: ok' "$fresh/log" || grep '^rt: ok.*, [0-9]* bad' "$fresh/log"
     echo "a must-fail edit no longer fits the text" >&2
     exit 1
 fi
+
+# The programs that rt ci leaves, as LLVM and as Rattle's own compiler built them, are attacked; nothing is printed where all is met.
+for program in crates/planner/out/planner crates/planner/out/planner.by-rattle; do
+    if ! second/target/release/attack "$program" crates/planner/stdin >"$fresh/attacked" 2>&1; then
+        cat "$fresh/attacked" >&2
+        exit 1
+    fi
+done

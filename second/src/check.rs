@@ -76,9 +76,6 @@ impl Site {
 }
 
 #[cfg(test)]
-mod best_paths;
-
-#[cfg(test)]
 mod tests {
     use crate::tests::check_from;
 

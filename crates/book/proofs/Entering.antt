@@ -9,7 +9,7 @@ use Rattle.lists.specs.declared.list.CandidateList.{Ghosts as Candidates}
 use Rattle.lists.specs.Meaning.{ListLaws}
 use Rattle.runs.specs.Acts.{enters}
 use Rattle.book.specs.Entering.{Enters}
-use Rattle.runs.specs.ActsLemmas.{acts-append}
+use Rattle.runs.proofs.Rows.{acts-append}
 
 -- the numbers below n + 1 that pass
 filter-range_more : (p : ℕ → Bool) (n : ℕ) → filter p (range_with_len 0 (n + 1)) ≡ filter p (range_with_len 0 n) ++ (if p n then n ∷ [] else [])

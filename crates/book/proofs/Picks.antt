@@ -1,5 +1,5 @@
 -- Picks, one after the other: what becomes of plan and list, and when work has come to its end.
-use Rattle.std.proofs.Common.{◌≡◌, ℕ, ◌+◌, ◌<◌, true, false, nat_lt, List, [], ◌∷◌, ◌++◌, length, Some, None, refl, sym, ap, ◌∙◌, subst, append_assoc, arith}
+use Rattle.std.proofs.Common.{◌≡◌, ℕ, ◌+◌, ◌<◌, ◌≤◌, true, false, nat_lt, List, [], ◌∷◌, ◌++◌, length, Some, None, refl, sym, ap, ◌∙◌, subst, append_assoc, arith}
 use Rattle.std.proofs.lemmas.List.{append-nil, length-append}
 use Rattle.std.proofs.lemmas.Bool.{lt-ltb, le-ltb}
 use Rattle.kinds.specs.declared.kind.Kind.{Ghosts as Kind}
@@ -9,7 +9,7 @@ use Rattle.runs.specs.Acts.{gives, Acts, waiting_in}
 use Rattle.plans.specs.Plan.{Plan}
 use Rattle.runs.specs.Scan.{after_pick, pick_acts, after_picks, picks_acts}
 use Rattle.runs.specs.Calls.{Memory, last_pick, Works}
-use Rattle.runs.specs.ActsLemmas.{acts-append}
+use Rattle.runs.proofs.Rows.{acts-append}
 
 module _ {K L G : Type 0} (k : Kind K L G) (t : Table) (gateway : ℕ) (grades : List G) where
   pub after_picks-append : (p : Plan L) (xs ys : List ℕ) → after_picks k t gateway grades p (xs ++ ys) ≡ after_picks k t gateway grades (after_picks k t gateway grades p xs) ys
@@ -56,36 +56,33 @@ module _ {S K L G : Type 0} {k : Kind K L G} {c : Candidates S K L G} {t : Table
       }
 
 module _ {S K L G : Type 0} {k : Kind K L G} {c : Candidates S K L G} {t : Table} where
+  -- the last pick, if there is one more, leads to list v
+  ended : {m : Memory L G S} {allowed made : ℕ} {q : Plan L} {u : S} (told waiting : ℕ) (v : S) → told ≡ made → made ≤ allowed
+      → waiting ≡ waiting_in c v → (w : Picked k c t m.gateway m.grades m.plan m.list made q u) → Acts c u (last_pick k c t allowed w.picks q.labels) v
+      → Works k c t m allowed told waiting (record m { plan = q; list = v })
+  ended {m} {allowed} {made} {q} {u} told waiting v is few left w last = record {
+    book = (refl, refl);
+    grades = refl;
+    picks = w.picks;
+    within = omega (arith, w.counted, few);
+    plan = w.plan;
+    list = acts-append c m.list (picks_acts k t m.gateway m.grades m.plan w.picks) (last_pick k c t allowed w.picks q.labels) u v w.list last;
+    counted = is ∙ w.counted;
+    left = left;
+  }
+
   -- the list answered nothing before the allowance was spent
   pub works-idle : {m : Memory L G S} {allowed made : ℕ} {q : Plan L} {u : S} (told waiting : ℕ) (v : S) → told ≡ made → made < allowed → c.picked u q.labels None v
       → waiting ≡ waiting_in c v → Picked k c t m.gateway m.grades m.plan m.list made q u
       → Works k c t m allowed told waiting (record m { plan = q; list = v })
-  works-idle {m} {allowed} {made} {q} {u} told waiting v is below pick left w =
+  works-idle {allowed = allowed} told waiting v is below pick left w =
       let more : nat_lt (length w.picks) allowed ≡ true = lt-ltb (length w.picks) allowed (rw w.counted at below) in
-      record {
-        book = (refl, refl);
-        grades = refl;
-        picks = w.picks;
-        within = omega (arith, w.counted);
-        plan = w.plan;
-        list = acts-append c m.list (picks_acts k t m.gateway m.grades m.plan w.picks) (last_pick k c t allowed w.picks q.labels) u v w.list (rw more (v, pick, refl));
-        counted = is ∙ w.counted;
-        left = left;
-      }
+      ended told waiting v is (omega arith) left w (rw more (v, pick, refl))
 
   -- the allowance is spent
   pub works-spent : {m : Memory L G S} {allowed made : ℕ} {q : Plan L} {u : S} (told waiting : ℕ) → told ≡ made → made ≡ allowed
       → waiting ≡ waiting_in c u → Picked k c t m.gateway m.grades m.plan m.list made q u
       → Works k c t m allowed told waiting (record m { plan = q; list = u })
-  works-spent {m} {allowed} {made} {q} {u} told waiting is spent left w =
+  works-spent {allowed = allowed} {u = u} told waiting is spent left w =
       let over : nat_lt (length w.picks) allowed ≡ false = le-ltb (length w.picks) allowed (omega (arith, w.counted)) in
-      record {
-        book = (refl, refl);
-        grades = refl;
-        picks = w.picks;
-        within = omega (arith, w.counted);
-        plan = w.plan;
-        list = acts-append c m.list (picks_acts k t m.gateway m.grades m.plan w.picks) (last_pick k c t allowed w.picks q.labels) u u w.list (rw over refl);
-        counted = is ∙ w.counted;
-        left = left;
-      }
+      ended told waiting u is (omega arith) left w (rw over refl)

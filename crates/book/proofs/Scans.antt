@@ -5,21 +5,21 @@ use Rattle.std.proofs.lemmas.List.{get_or-set_other}
 use Rattle.std.proofs.lemmas.Grind.{get_or_default_zero}
 use Rattle.std.specs.List.{range_with_len}
 use Rattle.std.specs.declared.ops.Range.{Range}
-use Rattle.std.proofs.lemmas.Option.{slice_get_read}
 use Rattle.kinds.specs.declared.kind.Kind.{Ghosts as Kind}
 use Rattle.kinds.specs.Laws.{Laws}
 use Rattle.lists.specs.declared.list.CandidateList.{Ghosts as Candidates}
 use Rattle.net.specs.Table.{Table, ForwardStar, station_count, link_count, first_link, head_at}
 use Rattle.net.proofs.Going.{Gives}
 use Rattle.net.proofs.Tails.{first_link-below}
-use Rattle.paths.specs.Grade.{carried_over}
 use Rattle.walks.specs.Walk.{unlabelled, entry_at, labelled}
 use Rattle.runs.specs.Acts.{Acts}
 use Rattle.plans.specs.Offers.{offered, welcomes}
 use Rattle.plans.specs.Plan.{Plan, label_at}
+use Rattle.plans.proofs.Labelled.{lab_labelled}
+use Rattle.plans.proofs.Offering.{offered-is}
 use Rattle.runs.specs.Scan.{links_of, after_link, link_acts, after_links, links_acts}
 use Rattle.book.specs.Offers.{after_offer, offer_acts}
-use Rattle.runs.specs.ActsLemmas.{acts-append}
+use Rattle.runs.proofs.Rows.{acts-append}
 
 -- the numbers of a range
 abbrev pub left_in : Range ℕ → List ℕ
@@ -30,7 +30,7 @@ left_in-next r l q (end, step) = let n : r.end - r.start ≡ suc (r.end - (r.sta
 
 -- a station whose entry says so is labelled
 pub labelled-is : (entries : List ℕ) (v : ℕ) → v < length entries → (get_or entries v 0 ≡ unlabelled → ⊥) → labelled entries v ≡ true
-labelled-is entries v b h = rw (ne_eqb (entry_at entries v) unlabelled (λ e. h (sym (get_or_default_zero entries v unlabelled b) ∙ e)))
+labelled-is entries v b h = lab_labelled entries v (λ e. h (sym (get_or_default_zero entries v unlabelled b) ∙ e))
 
 module _ {K L G : Type 0} (k : Kind K L G) (laws : Laws k.carry k.at_least k.rank) where
   -- a station does not take its own label carried over a link
@@ -51,12 +51,6 @@ module _ {K L G : Type 0} (k : Kind K L G) (laws : Laws k.carry k.at_least k.ran
           | inr other ↦ rw takes (get_or-set_other p.labels v x _ k.start other, get_or-set_other p.entries v x l unlabelled other)
         ]
       ]
-
--- what a link offers, with the label of its station read before
-offered-is : {K L G : Type 0} (k : Kind K L G) (grades : List G) (p : Plan L) (x l : ℕ) (a : L) (g : G) → a ≡ label_at k p x → l < length grades
-    → g ≡ get_or grades l g → offered k grades p x l ≡ Some (k.carry a g)
-offered-is k grades p x l a g e h is =
-    ap (carried_over k (label_at k p x)) (slice_get_read grades (length grades) l g refl h is) ∙ ap (λ b. Some (k.carry b g)) (sym e)
 
 module _ {K L G : Type 0} (k : Kind K L G) (t : Table) (gateway : ℕ) (grades : List G) where
   -- a link into the gateway is passed over
@@ -128,7 +122,7 @@ module _ {S K L G : Type 0} {k : Kind K L G} {c : Candidates S K L G} {t : Table
   underway-offer {after = after} {p = p} {q = q} {s = s} {u = u} laws l g new gives far graded is made planned acts w =
       let h : l < length grades = omega (arith, w.within, gives) in
       let n : k.carry (label_at k p x) g ≡ new = sym (made ∙ ap (λ b. k.carry b g) w.label) in
-      let offer : offered k grades p x l ≡ Some new = offered-is k grades p x l a g w.label h is ∙ ap (λ b. Some b) (sym made) in
+      let offer : offered k grades p x l ≡ Some new = offered-is k grades p x l a g new w.label h is made in
       underway-next l after p s q u gives
       (after_link-offer k t gateway grades p x l new far offer ∙ sym planned)
       (rw (link_acts-offer k t gateway grades p x l new far offer) acts)

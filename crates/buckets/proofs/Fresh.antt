@@ -15,10 +15,10 @@ no_homes = replicate 1024 None
 homeless : (k : ℕ) → slice_index_or no_homes k None ≡ None
 homeless k = ⊎_elim (λ l. get_or-replicate 1024 k None None l) (λ (g : 1024 ≤ k). get_or_past no_homes k None (omega (arith, length-replicate {A = Option ℕ} 1024 None))) (cases_lt k 1024)
 
-pub fresh-settled : (next prev : List ℕ) → ((k : ℕ) → k < 1088 → slice_index next k ≡ k) → ((k : ℕ) → k < 1088 → slice_index prev k ≡ k) → Settled next prev no_homes (λ b. [])
-fresh-settled next prev n p =
+pub fresh-settled : (next prev : List ℕ) → ((k : ℕ) → k < 1088 → (slice_index next k ≡ k) × (slice_index prev k ≡ k)) → Settled next prev no_homes (λ b. [])
+fresh-settled next prev ties =
     settled next prev no_homes (λ b. [])
-    (λ b l. (n (1024 + b) (omega arith), p (1024 + b) (omega arith)))
+    (λ b l. ties (1024 + b) (omega arith))
     (λ b l. refl)
     (λ b l k. sym (ap (λ o. is_home o b) (homeless k)))
 

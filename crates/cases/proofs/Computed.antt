@@ -1,7 +1,7 @@
 -- The worked cases, computed.
 use Rattle.std.specs.Prelude.{◌≡◌, ℕ, List, [], ◌∷◌, map, reverse, Ok, Err, Result, IsOkAnd, refl}
 use Rattle.std.proofs.Common.{ap, subst}
-use Rattle.refusals.specs.declared.book.BookFault.TheVariants.{Astray}
+use Rattle.refusals.specs.declared.book.BookFault.TheVariants.{Short, Astray}
 use Rattle.refusals.specs.declared.list.ListFault.{ListFault}
 use Rattle.kinds.specs.declared.airtime.Airtime.{Airtime}
 use Rattle.kinds.specs.Shipped.{by_airtime}
@@ -12,12 +12,13 @@ use Rattle.walks.specs.Walk.{walk, walk_end, met_back}
 use Rattle.runs.specs.Calls.{Call, refuses}
 use Rattle.runs.specs.Scan.{after_links, links_acts, after_picks}
 use Rattle.runs.specs.Law.{Event, Run, new_book}
-use Rattle.runs.specs.Ordered.{by_order, picks_within, run_out}
-use Rattle.runs.specs.OrderedLemmas.{run_out-runs}
+use Rattle.runs.specs.Ordered.{by_order}
 use Rattle.choice.specs.AnyOrder.{AnyModel, any_order}
 use Rattle.choice.specs.Choices.{chosen}
 use Rattle.buckets.specs.Firsts.{next_from}
-use Rattle.cases.specs.Worked.{Case, run, overwritten, worked, Stands, AllStand, AirMemory, new_memory, RunsTo, EndsWith, Refuses, with_entry}
+use Rattle.cases.proofs.Carried.{picks_within, run_out}
+use Rattle.cases.proofs.Carrying.{run_out-runs}
+use Rattle.cases.specs.Worked.{Case, run, refused, overwritten, worked, Stands, AllStand, AirMemory, new_memory, RunsTo, EndsWith, Refuses, with_entry}
 
 -- the calls of these events, carried out from a new book
 abbrev ran : Table → List ℕ → List (Event Airtime Airtime) → AnyModel Airtime Airtime → List (Event Airtime Airtime) × AirMemory
@@ -56,12 +57,16 @@ made-so (Err e) P Q so p = p
 -- what is left to compute of a case
 abbrev Computes : Case → Type 0
 Computes (run c t grades events labels entries) = IsOkAnd (chosen by_airtime c) (Shows t grades events labels entries)
+Computes (refused c t grades events a told) = IsOkAnd (chosen by_airtime c) (RanTo t grades events (Refuses t a told))
 Computes (overwritten c t grades events v e a told) = IsOkAnd (chosen by_airtime c) (RanTo t grades events (λ u. Refuses t a told (with_entry u v e)))
 Computes c = Stands c
 
 stands : (c : Case) → Computes c → Stands c
 stands (run c t grades events labels entries) r =
     made-so (chosen by_airtime c) (Shows t grades events labels entries) _ (shows-run t grades events labels entries) r
+stands (refused c t grades events a told) r =
+    let Ends : AirMemory → Type 0 = Refuses t a told in
+    made-so (chosen by_airtime c) (RanTo t grades events Ends) _ (runs-to t grades events Ends) r
 stands (overwritten c t grades events v e a told) r =
     let Ends : AirMemory → Type 0 = λ u. Refuses t a told (with_entry u v e) in
     made-so (chosen by_airtime c) (RanTo t grades events Ends) _ (runs-to t grades events Ends) r
@@ -78,7 +83,7 @@ all-of (c ∷ cs) r = (stands c r.0, all-of cs r.1)
 all-compute : AllCompute worked
 unfolding tail_at first_below next_from count_below walk walk_end met_back after_links links_acts after_picks picks_within
 all-compute =
-    (refl, (refl, (refl, (refl, (refl, (refl, (refl, (refl, (refl, (refl, (refl, (refl, (refl, (refl, (refl, (refl, (refl, (refl, (refl, (refl, (refl, (refl, (refl, (refl, (refl, ((refl, (Astray, refuses refl, refl)), (refl, (refl, (refl, (refl, (refl, (refl, tt))))))))))))))))))))))))))))))))
+    (refl, (refl, (refl, (refl, (refl, (refl, (refl, (refl, (refl, (refl, (refl, (refl, (refl, (refl, (refl, (refl, (refl, (refl, (refl, (refl, (refl, (refl, (refl, (refl, ((refl, (Short 3, refuses refl, refl)), ((refl, (Astray, refuses refl, refl)), (refl, (refl, (refl, (refl, (refl, (refl, tt))))))))))))))))))))))))))))))))
 
 pub all-stand : AllStand worked
 all-stand = all-of worked all-compute

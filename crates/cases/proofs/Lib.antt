@@ -1,2 +1,4 @@
+pub mod Carried
+pub mod Carrying
 pub mod Computed
 pub mod Calling

@@ -2,7 +2,6 @@
 use Rattle.std.specs.Prelude.{◌≡◌, ℕ, false, List, [], ◌∷◌, ◌++◌, map, reverse, replicate, length, ℤ, pos, negsuc, Some, None, Ok, Err, Option, Result, IsOkAnd, slice_set}
 use Rattle.std.specs.Option.{option_map}
 use Rattle.refusals.specs.declared.book.BookFault.{BookFault}
-use Rattle.refusals.specs.declared.book.BookFault.TheVariants.{Short}
 use Rattle.refusals.specs.declared.list.ListFault.{ListFault}
 use Rattle.refusals.specs.declared.list.ListFault.TheVariants.{Buckets}
 use Rattle.refusals.specs.declared.told.Layer.{Layer}
@@ -45,7 +44,9 @@ pub data Case : Type 0 where
   no_buckets : ℕ → ℕ → Case
   -- over such a list, from a new book on this net with these airtimes, calls in the order of time get these answers, and lead to these labels and entries
   run : Choice Airtime → Table → List ℕ → List (Event Airtime Airtime) → List ℕ → List ℕ → Case
-  -- after such calls with their answers, the entry of a station is overwritten, and then a call is refused and told so
+  -- after such calls with their answers, a call is refused and told so. No row has a refused call in its run, which may be one that was made over other memory
+  refused : Choice Airtime → Table → List ℕ → List (Event Airtime Airtime) → Call Airtime → Told → Case
+  -- the same, once the entry of a station is overwritten
   overwritten : Choice Airtime → Table → List ℕ → List (Event Airtime Airtime) → ℕ → ℕ → Call Airtime → Told → Case
   -- on this net with these airtimes and this gateway, the first fault of these labels and entries is told so, or they have none
   checked : Table → List ℕ → ℕ → List ℕ → List ℕ → Option Told → Case
@@ -96,6 +97,7 @@ Stands (paths t n) = length (simple_paths t) ≡ n
 Stands (order c ls steps picks) = Answers (map airtime_of ls) (chosen by_airtime c) steps picks
 Stands (no_buckets width span) = chosen by_airtime (choice.Bucket width span) ≡ Err Buckets
 Stands (run c t grades events labels entries) = IsOkAnd (chosen by_airtime c) (RunsTo t grades events (EndsWith labels entries))
+Stands (refused c t grades events a told) = IsOkAnd (chosen by_airtime c) (RunsTo t grades events (Refuses t a told))
 Stands (overwritten c t grades events v e a told) = IsOkAnd (chosen by_airtime c) (RunsTo t grades events (λ u. Refuses t a told (with_entry u v e)))
 Stands (checked t grades gateway labels entries told) =
     option_map check_tells (first_fault by_airtime t gateway (map airtime_of grades) (plan (map airtime_of labels) entries)) ≡ told
@@ -161,8 +163,7 @@ worked =
     ∷ run choice.FirstIn one_roof [] (event (book.start 0) book.started ∷ event (book.work 0) (book.worked 0 1) ∷ []) (0 ∷ []) (65534 ∷ [])
     ∷ run choice.FirstIn four_roofs roof_airtimes (works_out 6 ++ event (book.route 3 10) (book.routed (1 ∷ 3 ∷ 2 ∷ [])) ∷ [])
     (0 ∷ 3 ∷ 1 ∷ 4 ∷ []) (65534 ∷ 3 ∷ 1 ∷ 2 ∷ [])
-    ∷ run choice.FirstIn four_roofs roof_airtimes (works_out 6 ++ event (book.route 3 2) (book.refused (Short 3)) ∷ [])
-    (0 ∷ 3 ∷ 1 ∷ 4 ∷ []) (65534 ∷ 3 ∷ 1 ∷ 2 ∷ [])
+    ∷ refused choice.FirstIn four_roofs roof_airtimes (works_out 6) (book.route 3 2) (told_as 12 3 Layer.Book)
     ∷ overwritten choice.FirstIn four_roofs roof_airtimes (works_out 6) 1 own (book.route 3 10) (told_as 11 0 Layer.Book)
     ∷ checked four_roofs roof_airtimes 0 (0 ∷ 3 ∷ 1 ∷ 4 ∷ []) (65534 ∷ 3 ∷ 1 ∷ 2 ∷ []) None
     ∷ checked four_roofs roof_airtimes 4 (0 ∷ 3 ∷ 1 ∷ 4 ∷ []) (65534 ∷ 3 ∷ 1 ∷ 2 ∷ []) (Some (told_as 7 0 Layer.Check))

@@ -1,7 +1,8 @@
-// The worked cases on the code itself, and the refusals of a net and of lists with their places.
+// The worked cases on the code itself, the refusals of a net and of lists with their places, and texts that no script shows.
 use super::worked_cases;
+use answers::trouble::Trouble;
 use choice::any::AnyList;
-use choice::list_name::ListName;
+use choice::list_name::{ListName, UnknownList};
 use choice::make::{Choice, choice_of, make};
 use kinds::airtime::Airtime;
 use kinds::airtime::by::ByAirtime;
@@ -85,13 +86,23 @@ fn four_roofs(rt: HostRuntime) -> Result<(), Fail> {
 #[test]
 fn labels_written(rt: HostRuntime) -> Result<(), Fail> {
     let heap = rt.alloc();
-    let (time, parts, least) = (
+    let (time, parts, none, least) = (
         Airtime::new(4294967295),
         Chance::read(65536),
+        Chance::read(0),
         Margin::new(-128),
     );
-    let text = format!(in heap; "{time} {parts} {least}")?;
-    assert_eq!(rt; text.as_str(), "4294967295 65536 -128");
+    let text = format!(in heap; "{time} {parts} {none} {least}")?;
+    assert_eq!(rt; text.as_str(), "4294967295 65536 0 -128");
+    Ok(())
+}
+
+#[test]
+fn troubles_written(rt: HostRuntime) -> Result<(), Fail> {
+    let heap = rt.alloc();
+    let (memory, list) = (Trouble::Memory, UnknownList);
+    let text = format!(in heap; "{memory}, {list}")?;
+    assert_eq!(rt; text.as_str(), "out of memory, no such candidate list");
     Ok(())
 }
 

@@ -1,13 +1,9 @@
 -- What the first fault of a kind is, once the places below one have been found without.
-use Rattle.std.proofs.Common.{◌≡◌, ℕ, ◌<◌, Bool, true, false, None, Ok, Err, refl}
+use Rattle.std.proofs.Common.{◌≡◌, ℕ, ◌<◌, Bool, true, None, Ok, Err, refl}
 use Rattle.net.specs.First.{first_below}
 use Rattle.net.specs.Judged.{judged}
-use Rattle.net.proofs.Firsts.{none_is, first-is}
+use Rattle.net.proofs.Firsts.{NoneBelow, none_is, first-is}
 use Rattle.plans.specs.Tests.{at_first}
-
--- no place below i passes
-abbrev pub NoneBelow : (ℕ → Bool) → ℕ → Type 0
-NoneBelow p i = (k : ℕ) → k < i → p k ≡ false
 
 module _ {E : Type 0} (f : ℕ → E) (p : ℕ → Bool) (n : ℕ) where
   -- place i does

@@ -1,4 +1,4 @@
-// The test of the stations by their entries: to each labelled one but the gateway comes its label, over its entry.
+// The test of the stations by their entries: each labelled one but the gateway has just the label that a labelled tail carries over its entry link.
 ghost use Rattle.std.specs.Prelude.{◌≡◌, ◌<◌, length, IfSome};
 ghost use Rattle.net.specs.First.{first_below};
 ghost use Rattle.net.specs.Judged.{judged};
@@ -40,7 +40,7 @@ fn handed_by<K: Kind>(
     same::<K>(new, labels[station as usize])
 }
 
-// Refuses the first labelled station, but the gateway, to which its label does not come.
+// Refuses the first labelled station, but the gateway, that has not.
 pub(crate) fn test_entries<K: Kind>(
     net: &Net,
     grades: &[K::Grade],

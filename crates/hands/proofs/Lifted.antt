@@ -1,5 +1,6 @@
--- A call of the book over lists that keep to an order is the same call over the models of these lists.
-use Rattle.std.proofs.Common.{◌≡◌, List, [], ◌∷◌, ◌++◌, Ok, Result, refl, ap, ◌∙◌}
+-- A call of the book over lists that keep to an order is the same call over the models of these lists, and so is what a line comes to that asks for one.
+use Rattle.std.proofs.Common.{◌≡◌, ℕ, List, [], ◌∷◌, ◌++◌, Ok, Err, Result, refl, ap, ◌∙◌, inl, inr}
+use Rattle.refusals.specs.declared.kind.KindFault.{KindFault}
 use Rattle.kinds.specs.declared.kind.Kind.{Ghosts}
 use Rattle.lists.specs.Order.{Order}
 use Rattle.net.specs.Table.{Table, station_count}
@@ -15,8 +16,12 @@ use Rattle.choice.specs.declared.any.AnyList.{AnyList}
 use Rattle.answers.specs.declared.answer.Label.{Label}
 use Rattle.answers.specs.declared.answer.Answer.{Answer as Said}
 use Rattle.answers.specs.declared.trouble.Trouble.{Trouble}
+use Rattle.answers.specs.declared.verb.CallVerb.{CallVerb}
+use Rattle.answers.specs.declared.verb.CallVerb.TheVariants as asked
+use Rattle.reading.specs.declared.read.Readable.{Ghosts as Readings}
 use Rattle.hands.specs.declared.ask.NotAsked.{NotAsked}
-use Rattle.hands.specs.Calls.{by_model, call_answer, Called}
+use Rattle.hands.specs.declared.ask.NotAsked.TheVariants.{Refused, Troubled}
+use Rattle.hands.specs.Calls.{by_model, call_answer, Called, CallLine, ByRules, Lawful}
 
 -- a memory, with the list by its model
 abbrev pub modelled : {L G S M : Type 0} → (S → M) → Memory L G S → Memory L G M
@@ -69,8 +74,25 @@ module _ {S K L G M : Type 0} (k : Ghosts K L G) (model : S → M) (o : Order M 
   lifted (asks h) = asks h
   lifted (routes h) = routes h
 
--- the call that was asked for is the one that the book carried out
-pub called : {K L G : Type 0} (k : Ghosts K L G) (shown : L → Label) (t : Table) {m : Memory L G (AnyList K L G k)} {a : Call G} {b : Answer L} {u : Memory L G (AnyList K L G k)}
-    (asked : Result (Call G) NotAsked) (r : Result Said Trouble) → asked ≡ Ok a → r ≡ Ok (call_answer shown b)
-    → Does k (by_model any_model (any_order k)) t m a b u → Called k shown t (modelled any_model m) asked r (modelled any_model u)
-called k shown t {b} asked r e f d = rw e (b, lifted k any_model (any_order k) t d, f)
+module _ {L G M : Type 0} (shown : L → Label) (Made : Memory L G M → Call G → Answer L → Memory L G M → Type 0) where
+  -- the call that was asked for is the one that the book made
+  pub called : {m : Memory L G M} {a : Call G} {b : Answer L} {u : Memory L G M} (asked : Result (Call G) NotAsked) (r : Result Said Trouble)
+      → asked ≡ Ok a → r ≡ Ok (call_answer shown b) → Made m a b u → Called shown Made m asked r u
+  called {b = b} asked r e f d = rw e (b, d, f)
+
+module _ {K L G : Type 0} (k : Ghosts K L G) (shown : L → Label) (t : Table) where
+  by-model : (m u : Memory L G (AnyList K L G k)) (asked : Result (Call G) NotAsked) (r : Result Said Trouble)
+      → Called shown (Lawful k t) m asked r u → Called shown (ByRules k t) (modelled any_model m) asked r (modelled any_model u)
+  by-model m u (Err (Troubled e)) r (says, leaves) = (says, ap (modelled any_model) leaves)
+  by-model m u (Err (Refused f)) r (says, leaves) = (says, ap (modelled any_model) leaves)
+  by-model m u (Ok a) r (b, (d, law), says) = (b, lifted k any_model (any_order k) t d, says)
+
+  -- what a line comes to over the list itself it comes to over the model of the list
+  pub line_by_model : {S : Type 0} (single : Readings S) (makes : S → Result G KindFault) (m u : Memory L G (AnyList K L G k)) (v : CallVerb) (ws : List (List ℕ)) (r : Result Said Trouble)
+      → CallLine shown (Lawful k t) single makes v m ws r u → CallLine shown (ByRules k t) single makes v (modelled any_model m) ws r (modelled any_model u)
+  line_by_model single makes m u asked.Start ws r h = by-model m u _ r h
+  line_by_model single makes m u asked.Work ws r h = by-model m u _ r h
+  line_by_model single makes m u asked.Regrade ws r h = by-model m u _ r h
+  line_by_model single makes m u asked.Ask ws r h = by-model m u _ r h
+  line_by_model single makes m u asked.Route ws r (inl (says, leaves)) = inl (says, ap (modelled any_model) leaves)
+  line_by_model single makes m u asked.Route ws r (inr h) = inr (by-model m u _ r h)

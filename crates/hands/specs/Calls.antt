@@ -7,9 +7,12 @@ use Rattle.kinds.specs.declared.kind.Kind.{Ghosts}
 use Rattle.lists.specs.Order.{Order, waits_by, emptied_by, entered_by, picked_by}
 use Rattle.lists.specs.declared.list.CandidateList.{Ghosts as Candidates}
 use Rattle.choice.specs.AnyOrder.{any_order}
+use Rattle.choice.specs.AnyModels.{any_model}
+use Rattle.choice.specs.declared.any.AnyList.{AnyList}
 use Rattle.net.specs.Table.{Table}
-use Rattle.runs.specs.Calls.{Call, start, work, regrade, ask, route}
+use Rattle.runs.specs.Calls.{Memory, Call, start, work, regrade, ask, route}
 use Rattle.runs.specs.Calls as calls
+use Rattle.runs.specs.Law.{KeepsLaw}
 use Rattle.runs.specs.Ordered.{by_order}
 use Rattle.answers.specs.declared.answer.Answer.{Answer}
 use Rattle.answers.specs.declared.answer.Answer.TheVariants as answer
@@ -53,17 +56,27 @@ module _ {L : Type 0} (shown : L → Label) where
   call_answer (calls.routed links) = answer.Route links
   call_answer (calls.refused fault) = answer.Refused (book_tells fault)
 
-module _ {K L G : Type 0} (k : Ghosts K L G) (shown : L → Label) (t : Table) where
-  -- the call that was asked for is one of the book's
-  abbrev pub Called : HeldBy L G → Result (Call G) NotAsked → Result Answer Trouble → HeldBy L G → Type 0
-  Called h (Err e) r n = Does (not_asked e h) r n
-  Called h (Ok a) r n = (b : calls.Answer L) × calls.Does k (by_order (any_order k)) t h a b n × (r ≡ Ok (call_answer shown b))
+-- What a line comes to that asks for a call. `Made` says of a call, its answer, and the memory before and after, that the book made it so.
+module _ {L G M : Type 0} (shown : L → Label) (Made : Memory L G M → Call G → calls.Answer L → Memory L G M → Type 0) where
+  -- the call that was asked for was made, or none was, for a trouble or a refusal
+  abbrev pub Called : Memory L G M → Result (Call G) NotAsked → Result Answer Trouble → Memory L G M → Type 0
+  Called m (Err e) r u = Does (not_asked e m) r u
+  Called m (Ok a) r u = (b : calls.Answer L) × Made m a b u × (r ≡ Ok (call_answer shown b))
 
   module _ {S : Type 0} (single : Readings S) (makes : S → Result G KindFault) where
     -- only `route` takes memory, for its links
-    abbrev pub CallLine : CallVerb → HeldBy L G → List (List ℕ) → Result Answer Trouble → HeldBy L G → Type 0
-    CallLine asked.Start h ws r n = Called h (call_asked single makes asked.Start ws) r n
-    CallLine asked.Work h ws r n = Called h (call_asked single makes asked.Work ws) r n
-    CallLine asked.Regrade h ws r n = Called h (call_asked single makes asked.Regrade ws) r n
-    CallLine asked.Ask h ws r n = Called h (call_asked single makes asked.Ask ws) r n
-    CallLine asked.Route h ws r n = NoMemory h r n ⊎ Called h (call_asked single makes asked.Route ws) r n
+    abbrev pub CallLine : CallVerb → Memory L G M → List (List ℕ) → Result Answer Trouble → Memory L G M → Type 0
+    CallLine asked.Start m ws r u = Called m (call_asked single makes asked.Start ws) r u
+    CallLine asked.Work m ws r u = Called m (call_asked single makes asked.Work ws) r u
+    CallLine asked.Regrade m ws r u = Called m (call_asked single makes asked.Regrade ws) r u
+    CallLine asked.Ask m ws r u = Called m (call_asked single makes asked.Ask ws) r u
+    CallLine asked.Route m ws r u = NoMemory m r u ⊎ Called m (call_asked single makes asked.Route ws) r u
+
+module _ {K L G : Type 0} (k : Ghosts K L G) (t : Table) where
+  -- by the rules, where the list is known by its model
+  abbrev pub ByRules : HeldBy L G → Call G → calls.Answer L → HeldBy L G → Type 0
+  ByRules m a b u = calls.Does k (by_order (any_order k)) t m a b u
+
+  -- by the rules, and whatever run of calls has led to the memory before, this call and its answer lead to what the law of runs promises; over the list itself
+  abbrev pub Lawful : Memory L G (AnyList K L G k) → Call G → calls.Answer L → Memory L G (AnyList K L G k) → Type 0
+  Lawful m a b u = calls.Does k (by_model any_model (any_order k)) t m a b u × KeepsLaw k (by_model any_model (any_order k)) t m a b u

@@ -15,7 +15,7 @@ use Rattle.reading.specs.Reading.{read_all}
 use Rattle.hands.specs.Held.{HeldBy}
 use Rattle.hands.specs.Acts.{regraded, checked, labels_listed, entries_listed, poked, resizes, chose, entered, picked, emptied, waited}
 use Rattle.hands.specs.Asks.{number_asked, enter_asked, pick_asked, poke_asked, resize_asked, choice_asked}
-use Rattle.hands.specs.Calls.{CallLine}
+use Rattle.hands.specs.Calls.{CallLine, ByRules}
 
 -- labels, the grades of a list, and what a grade is made of that stands by itself, each read from words; a label as answers have it; and grade 0
 module _ {K L G S : Type 0} (k : Ghosts K L G) (label : Readings L) (shown : L → Label) (grade : Readings G) (single : Readings S) (makes : S → Result G KindFault) (zero : G) where
@@ -23,7 +23,7 @@ module _ {K L G S : Type 0} (k : Ghosts K L G) (label : Readings L) (shown : L �
   abbrev pub HeldLine : Table → HeldVerb → HeldBy L G → List (List ℕ) → Result Answer Trouble → HeldBy L G → Type 0
   HeldLine t asked.Grades h ws r n = Came (regraded h (read_all grade.reads grade.bounds 2 (drop 1 ws))) h r n
   HeldLine t asked.List h ws r n = Does (chose k h (choice_asked single.reads single.bounds makes ws)) r n
-  HeldLine t (asked.Call v) h ws r n = CallLine k shown t single makes v h ws r n
+  HeldLine t (asked.Call v) h ws r n = CallLine shown (ByRules k t) single makes v h ws r n
   HeldLine t asked.Check h ws r n = Does (checked k t h (number_asked usage.Check ws)) r n
   HeldLine t asked.Labels h ws r n = Came (labels_listed shown h ws) h r n
   HeldLine t asked.Entries h ws r n = Came (entries_listed h ws) h r n

@@ -3,8 +3,8 @@ ghost use Rattle.std.specs.Prelude.{◌≡◌};
 ghost use Rattle.answers.specs.declared.verb.CallVerb.{CallVerb};
 ghost use Rattle.net.specs.View.{table_of};
 ghost use Rattle.script.specs.Words.{word_bytes};
-ghost use Rattle.hands.specs.Calls.{CallLine};
-ghost use Rattle.hands.specs.Held.{held_by};
+ghost use Rattle.hands.specs.Calls.{CallLine, Lawful};
+ghost use Rattle.hands.specs.Held.{memory_of};
 
 use crate::ask::{NotAsked, Regrading, Routing, number_asked, regrade_asked, route_asked};
 use crate::fresh::repeated;
@@ -37,7 +37,7 @@ where
 {
     // `start`: the book begins anew from a gateway.
     pub fn start(&mut self, net: &Net, words: &[&[u8]]) -> Result<Answer, Trouble>
-        ensures { CallLine K.Kind K.Label.label (table_of net.now) K.Grade.Spelt.Readable K.Grade.makes CallVerb.Start (held_by self.old) (word_bytes words.now) result (held_by self.new) }
+        ensures { CallLine K.Label.label (Lawful K.Kind (table_of net.now)) K.Grade.Spelt.Readable K.Grade.makes CallVerb.Start (memory_of self.old) (word_bytes words.now) result (memory_of self.new) }
     {
         let gateway = number_asked(words, Usage::Start)?;
         match self.book.start::<K, AnyList<K>>(
@@ -55,7 +55,7 @@ where
 
     // `work`: so many picks at most, with the links of each station that is picked.
     pub fn work(&mut self, net: &Net, words: &[&[u8]]) -> Result<Answer, Trouble>
-        ensures { CallLine K.Kind K.Label.label (table_of net.now) K.Grade.Spelt.Readable K.Grade.makes CallVerb.Work (held_by self.old) (word_bytes words.now) result (held_by self.new) }
+        ensures { CallLine K.Label.label (Lawful K.Kind (table_of net.now)) K.Grade.Spelt.Readable K.Grade.makes CallVerb.Work (memory_of self.old) (word_bytes words.now) result (memory_of self.new) }
     {
         let allowed = number_asked(words, Usage::Work)?;
         match self.book.work::<K, AnyList<K>>(
@@ -73,7 +73,7 @@ where
 
     // `regrade`: a link has another grade.
     pub fn regrade(&mut self, net: &Net, words: &[&[u8]]) -> Result<Answer, Trouble>
-        ensures { CallLine K.Kind K.Label.label (table_of net.now) K.Grade.Spelt.Readable K.Grade.makes CallVerb.Regrade (held_by self.old) (word_bytes words.now) result (held_by self.new) }
+        ensures { CallLine K.Label.label (Lawful K.Kind (table_of net.now)) K.Grade.Spelt.Readable K.Grade.makes CallVerb.Regrade (memory_of self.old) (word_bytes words.now) result (memory_of self.new) }
     {
         let Regrading { link, grade } = match regrade_asked(words) {
             Ok(regrading) => regrading,
@@ -96,7 +96,7 @@ where
 
     // `ask`: what is known of a station.
     pub fn ask(&self, net: &Net, words: &[&[u8]]) -> Result<Answer, Trouble>
-        ensures { CallLine K.Kind K.Label.label (table_of net.now) K.Grade.Spelt.Readable K.Grade.makes CallVerb.Ask (held_by self.now) (word_bytes words.now) result (held_by self.now) }
+        ensures { CallLine K.Label.label (Lawful K.Kind (table_of net.now)) K.Grade.Spelt.Readable K.Grade.makes CallVerb.Ask (memory_of self.now) (word_bytes words.now) result (memory_of self.now) }
     {
         let station = number_asked(words, Usage::Ask)?;
         match self.book.ask::<K, AnyList<K>>(
@@ -114,7 +114,7 @@ where
 
     // `route`: the links of the way from the gateway to a station.
     pub fn route(&self, heap: Global, net: &Net, words: &[&[u8]]) -> Result<Answer, Trouble>
-        ensures { CallLine K.Kind K.Label.label (table_of net.now) K.Grade.Spelt.Readable K.Grade.makes CallVerb.Route (held_by self.now) (word_bytes words.now) result (held_by self.now) }
+        ensures { CallLine K.Label.label (Lawful K.Kind (table_of net.now)) K.Grade.Spelt.Readable K.Grade.makes CallVerb.Route (memory_of self.now) (word_bytes words.now) result (memory_of self.now) }
     {
         let Routing { station, places } = route_asked(words)?;
         let mut links = repeated(heap, 0, places)?;

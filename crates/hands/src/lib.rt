@@ -4,8 +4,8 @@
 pub mod act;
 pub mod ask;
 pub mod call;
+pub mod check;
 pub mod fresh;
 pub mod holding;
 pub mod memory;
 pub mod obey;
-pub mod plan;

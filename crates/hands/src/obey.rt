@@ -1,8 +1,8 @@
 // What is asked of what is held, by the command that a line names.
 ghost use Rattle.net.specs.View.{table_of};
 ghost use Rattle.script.specs.Words.{word_bytes};
-ghost use Rattle.hands.specs.Calls.{CallLine};
-ghost use Rattle.hands.specs.Held.{held_by};
+ghost use Rattle.hands.specs.Calls.{CallLine, Lawful};
+ghost use Rattle.hands.specs.Held.{held_by, memory_of};
 ghost use Rattle.hands.specs.Lines.{HeldLine};
 
 use crate::holding::Holding;
@@ -28,7 +28,7 @@ where
         words: &[&[u8]],
         verb: CallVerb,
     ) -> Result<Answer, Trouble>
-        ensures { CallLine K.Kind K.Label.label (table_of net.now) K.Grade.Spelt.Readable K.Grade.makes verb (held_by self.old) (word_bytes words.now) result (held_by self.new) }
+        ensures { CallLine K.Label.label (Lawful K.Kind (table_of net.now)) K.Grade.Spelt.Readable K.Grade.makes verb (memory_of self.old) (word_bytes words.now) result (memory_of self.new) }
     {
         match verb {
             CallVerb::Start => self.start(net, words),

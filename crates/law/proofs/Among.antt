@@ -2,7 +2,7 @@
 use Rattle.std.proofs.Common.{◌≡◌, ℕ, zero, suc, ◌<◌, Bool, true, false, ◌≢◌, ◌==◌, List, [], ◌∷◌, length, reverse, filter, Some, slice_set, ◌⊎◌, refl, sym, ap, ◌∙◌, subst, inl, inr, arith}
 use mathlib.Core.List.{reverse_aux}
 use Rattle.std.specs.List.{slice_get, list_any}
-use Rattle.std.proofs.lemmas.Bool.{both_ways, cond_both, cond-true, or_parts, or_cases, or_left, or_right, eq-eqb, eqb-true}
+use Rattle.std.proofs.lemmas.Bool.{both_ways, cond_both, cond-true, or_parts, or_cases, eqb-true}
 use Rattle.paths.specs.Lists.{In}
 
 module _ {A : Type 0} where
@@ -36,11 +36,6 @@ module _ {A : Type 0} where
         (λ _ i. inr (filter-in xs x i))
 
 -- the test for one number
-pub in_any : (x : ℕ) (xs : List ℕ) → In x xs → list_any (λ y. y == x) xs ≡ true
-in_any x [] i = elim i [ ]
-in_any x (y ∷ xs) (inl e) = or_left _ _ (eq-eqb y x (sym e))
-in_any x (y ∷ xs) (inr i) = or_right _ _ (in_any x xs i)
-
 pub any-in : (x : ℕ) (xs : List ℕ) → list_any (λ y. y == x) xs ≡ true → In x xs
 any-in x [] h = absurd (both_ways false refl h)
 any-in x (y ∷ xs) h = elim (or_cases _ _ h) [ inl e ↦ inl (sym (eqb-true y x e)) | inr k ↦ inr (any-in x xs k) ]

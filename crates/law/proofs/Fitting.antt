@@ -1,9 +1,9 @@
 -- The links of a station are those that leave it, and a forward star is fit for the proofs.
-use Rattle.std.proofs.Common.{◌≡◌, ℕ, zero, suc, ◌+◌, ◌-◌, ◌<◌, ◌≤◌, List, length, get_or, inl, inr, arith}
+use Rattle.std.proofs.Common.{ℕ, zero, suc, ◌+◌, ◌<◌, ◌≤◌, inl, inr, arith}
 use Rattle.std.specs.List.{range_with_len}
 use Rattle.std.proofs.lemmas.Bool.{cases_eq}
-use Rattle.net.specs.Table.{Table, ForwardStar, Leaves, Rising, link_count, station_count, tail_at}
-use Rattle.net.proofs.Tails.{lands, tail-is, tail-leaves}
+use Rattle.net.specs.Table.{Table, ForwardStar, Leaves, station_count, tail_at}
+use Rattle.net.proofs.Tails.{lands, tail-is, tail-leaves, first_link-below}
 use Rattle.paths.specs.Lists.{In}
 use Rattle.runs.specs.Scan.{links_of}
 use Rattle.law.proofs.Invariant.{Fit}
@@ -26,22 +26,7 @@ module _ (t : Table) where
       let r = range-in _ _ l i in
       record { station = h; from = r.0; to = omega (arith, r) }
 
--- starts that rise from one to the next rise over n
-rises-over : (s : List ℕ) → Rising s → (n k : ℕ) → k + n < length s → get_or s k 0 ≤ get_or s (k + n) 0
-rises-over s up zero k h = let e : k + 0 ≡ k = omega arith in rw e (omega arith)
-rises-over s up (suc n) k h =
-    let e : k + suc n ≡ k + n + 1 = omega arith in
-    rw e (omega (arith, rises-over s up n k (omega arith), up (k + n) (omega arith)))
-
 module _ {t : Table} (star : ForwardStar t) where
-  leaving-link : (l v : ℕ) → Leaves t l v → l < link_count t
-  leaving-link l v w =
-      let n = station_count t - (v + 1) in
-      let h = w.station in
-      let e : v + 1 + n ≡ station_count t = omega arith in
-      let up = rw e at (rises-over t.starts star.rising n (v + 1) (omega arith)) in
-      omega (arith, up, w.to, star.last)
-
   pub star_fit : Fit t
   star_fit = record {
     few = star.light;
@@ -49,5 +34,5 @@ module _ {t : Table} (star : ForwardStar t) where
     lands = λ l h. lands star l h;
     leaves = λ l h. (tail-leaves star l h).station;
     all = λ l h. leaves-in t l (tail_at t l) (tail-leaves star l h);
-    only = λ v h l i. let w = in-leaves t l v h i in (leaving-link l v w, tail-is star l v w);
+    only = λ v h l i. let w = in-leaves t l v h i in (omega (arith, w.to, first_link-below star (v + 1) (omega (arith, w.station))), tail-is star l v w);
   }

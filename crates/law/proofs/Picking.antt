@@ -14,10 +14,11 @@ use Rattle.plans.proofs.Labelled.{labelled_lab}
 use Rattle.runs.specs.Acts.{gives, Acts}
 use Rattle.runs.specs.Scan.{links_of, after_links, links_acts, after_pick, pick_acts, after_picks, picks_acts}
 use Rattle.runs.specs.Calls.{Memory, Works, last_pick}
+use Rattle.runs.proofs.Rows.{acts-parts}
 use Rattle.law.proofs.Invariant.{Fit, View, view, Lab}
 use Rattle.law.proofs.Counting.{count-left}
 use Rattle.law.proofs.Relaxing.{links_kept}
-use Rattle.law.proofs.Segments.{moved, memory_same, acts-parts, Part, Seg, same_waiting}
+use Rattle.law.proofs.Segments.{moved, memory_same, Part, Seg, with_list, same_waiting}
 
 -- the picks of work that answer stations, and then the one that answers nothing, if there is one
 work-parts : {S K L G : Type 0} (k : Kind K L G) (c : Candidates S K L G) (t : Table) (m : Memory L G S) (allowed made waiting : ℕ) (u : Memory L G S)
@@ -38,23 +39,13 @@ module _ {S K L G : Type 0} (k : Kind K L G) (c : Candidates S K L G) (t : Table
     -- x has left, and the links of `pend` are to be gone through: all of x's, if x is labelled
     left : (pend : List ℕ) → ((l : ℕ) → l < link_count t → Lab k t (view k c m) (tail_at t l) → tail_at t l ≡ x → In l pend)
         → Part k c t s0 pend (moved m m.plan q) (suc picks)
-    left pend mine = record {
-      sized = record { labels_n = seg.sized.labels_n; entries_n = seg.sized.entries_n; grades_m = seg.sized.grades_m };
-      inv = record {
-        gate_here = seg.inv.gate_here;
-        gate_label = seg.inv.gate_label;
-        gate_entry = seg.inv.gate_entry;
-        grown = seg.inv.grown;
-        settled = λ l in_net lab done not_gate none. elim (cases_eq (tail_at t l) x) [
+    left pend mine =
+        with_list k c t s0 [] pend m picks (suc picks) q seg (λ v h. (and_parts _ _ (sym (now v) ∙ h)).0)
+        (λ l in_net lab off none. elim (cases_eq (tail_at t l) x) [
           | inl e ↦ absurd (none (mine l in_net lab e))
-          | inr d ↦ seg.inv.settled l in_net lab (stays (tail_at t l) d (now (tail_at t l)) done) not_gate (λ i. i)
-        ];
-      };
-      netted = λ v h. seg.netted v (and_parts _ _ (sym (now v) ∙ h)).0;
-      ways = seg.ways;
-      hist = record { gr_same = seg.hist.gr_same; once = seg.hist.once; closed = seg.hist.closed; made = seg.hist.made; past = seg.hist.past };
-      count = omega (arith, seg.count, count-left (c.waits m.list) (c.waits q) x 1024 was now (omega (arith, seg.netted x was, fit.small)));
-    }
+          | inr d ↦ (stays (tail_at t l) d (now (tail_at t l)) off, λ i. i)
+        ])
+        (omega (arith, count-left (c.waits m.list) (c.waits q) x 1024 was now (omega (arith, seg.netted x was, fit.small))))
       where
         stays : (j : ℕ) → (j ≡ x → ⊥) → c.waits q j ≡ (c.waits m.list j && not (j == x)) → c.waits q j ≡ false → c.waits m.list j ≡ false
         stays j d e f = grind (arith, nat_tests)

@@ -16,11 +16,12 @@ use Rattle.plans.proofs.Labelled.{labelled_lab, lab_labelled}
 use Rattle.runs.specs.Acts.{enters, Acts}
 use Rattle.runs.specs.Scan.{given, after_link, link_acts, after_links, links_acts}
 use Rattle.runs.specs.Calls.{Memory}
+use Rattle.runs.proofs.Rows.{acts-parts}
 use Rattle.law.proofs.Invariant.{Fit, View, view, Sized, Lab, offer}
 use Rattle.law.proofs.Counting.{count-entered}
 use Rattle.law.proofs.History.{way, wrote_hist}
-use Rattle.law.proofs.Segments.{moved, acts-parts, Part}
-use Rattle.law.proofs.Writing.{Served, Takes, Wrote, still_lab, wrote_inv, passed_inv}
+use Rattle.law.proofs.Segments.{moved, Part}
+use Rattle.law.proofs.Writing.{HeadServed, Takes, Wrote, still_lab, wrote_inv, passed_inv}
 
 module _ {S K L G : Type 0} (k : Kind K L G) (c : Candidates S K L G) (t : Table)
     (laws : Laws k.carry k.at_least k.rank) (lists : ListLaws c.waits c.emptied c.entered c.picked) (fit : Fit t) where
@@ -84,7 +85,7 @@ module _ {S K L G : Type 0} (k : Kind K L G) (c : Candidates S K L G) (t : Table
     Kept s0 pend picks u = Part k c t s0 pend u picks × ((x : ℕ) → Lab k t (view k c m) x → Lab k t (view k c u) x)
 
     passed-kept : (s0 : View L G) (pend : List ℕ) (picks : ℕ) (q : S) → Part k c t s0 (l ∷ pend) m picks → q ≡ m.list
-        → (head_at t l ≢ m.gateway → Served k t (view k c m) l) → Kept s0 pend picks (moved m m.plan q)
+        → (head_at t l ≢ m.gateway → HeadServed k t (view k c m) l) → Kept s0 pend picks (moved m m.plan q)
     passed-kept s0 pend picks q part same ok =
         let old : Part k c t s0 pend m picks = record {
           sized = part.sized;

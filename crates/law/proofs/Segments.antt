@@ -1,16 +1,16 @@
 -- A stretch of calls since a start or a regrade: what holds after each pick and each link, and that its picks are few.
-use Rattle.std.proofs.Common.{◌≡◌, ℕ, ◌+◌, ◌<◌, ◌≤◌, true, List, [], ◌∷◌, ◌++◌, length, refl, sym, ap, ◌∙◌, arith}
+use Rattle.std.proofs.Common.{◌≡◌, ℕ, ◌+◌, ◌<◌, ◌≤◌, true, false, List, [], length, sym, ap, ◌∙◌, arith}
 use Rattle.kinds.specs.declared.kind.Kind.{Ghosts as Kind}
 use Rattle.kinds.specs.Laws.{Laws}
 use Rattle.lists.specs.Meaning.{count_below}
 use Rattle.lists.specs.Counts.{count_same}
 use Rattle.lists.specs.declared.list.CandidateList.{Ghosts as Candidates}
-use Rattle.net.specs.Table.{Table, ForwardStar, station_count, tail_at}
+use Rattle.net.specs.Table.{Table, ForwardStar, station_count, link_count, tail_at}
+use Rattle.paths.specs.Lists.{In}
 use Rattle.paths.specs.Simple.{simple_paths}
-use Rattle.runs.specs.Acts.{Act, Acts}
 use Rattle.plans.specs.Plan.{Plan}
 use Rattle.runs.specs.Calls.{Memory}
-use Rattle.law.proofs.Invariant.{View, view, Sized, Inv}
+use Rattle.law.proofs.Invariant.{View, view, Sized, Lab, Inv}
 use Rattle.law.proofs.Counting.{count-bounded}
 use Rattle.law.proofs.History.{Hist, hist_few, hist_none}
 
@@ -28,15 +28,6 @@ memory_same {L} {G} {S} m u a b c d e =
     ∙ ap (λ x. made u.started u.gateway x m.plan m.list) c
     ∙ ap (λ y. made u.started u.gateway u.grades y m.list) d
     ∙ ap (λ z. made u.started u.gateway u.grades u.plan z) e
-
-module _ {S K L G : Type 0} (c : Candidates S K L G) where
-  -- acts that follow one another have a list in between
-  pub acts-parts : (s : S) (before after : List (Act L)) (u : S) → Acts c s (before ++ after) u → (q : S) × Acts c s before q × Acts c q after u
-  acts-parts s [] after u h = (s, refl, h)
-  acts-parts s (a ∷ before) after u h =
-      let (r, first, rest) = h in
-      let (q, begun, ended) = acts-parts r before after u rest in
-      (q, (r, first, begun), ended)
 
 module _ {S K L G : Type 0} (k : Kind K L G) (c : Candidates S K L G) (t : Table) where
   -- since the view s0 of the last start or regrade this many picks were made; the links of `pend` are still to be gone through
@@ -68,20 +59,30 @@ module _ {S K L G : Type 0} (k : Kind K L G) (c : Candidates S K L G) (t : Table
     count = omega (arith, count-bounded (c.waits m.list) (station_count t) 1024 netted);
   }
 
+  -- The same plan over a list in which no others wait, with the links of `after` still to be gone through.
+  pub with_list : (s0 : View L G) (pend after : List ℕ) (m : Memory L G S) (picks now : ℕ) (q : S) → Part s0 pend m picks
+      → ((v : ℕ) → c.waits q v ≡ true → c.waits m.list v ≡ true)
+      → ((l : ℕ) → l < link_count t → Lab k t (view k c m) (tail_at t l) → c.waits q (tail_at t l) ≡ false → (In l after → ⊥)
+      → (c.waits m.list (tail_at t l) ≡ false) × (In l pend → ⊥))
+      → now + count_below (c.waits q) 1024 ≤ picks + count_below (c.waits m.list) 1024 → Part s0 after (moved m m.plan q) now
+  with_list s0 pend after m picks now q part waited done few = record {
+    sized = record { labels_n = part.sized.labels_n; entries_n = part.sized.entries_n; grades_m = part.sized.grades_m };
+    inv = record {
+      gate_here = part.inv.gate_here;
+      gate_label = part.inv.gate_label;
+      gate_entry = part.inv.gate_entry;
+      grown = part.inv.grown;
+      settled = λ l in_net lab off not_gate none. let (out, gone) = done l in_net lab off none in part.inv.settled l in_net lab out not_gate gone;
+    };
+    netted = λ v h. part.netted v (waited v h);
+    ways = part.ways;
+    hist = record { gr_same = part.hist.gr_same; once = part.hist.once; closed = part.hist.closed; made = part.hist.made; past = part.hist.past };
+    count = omega (arith, part.count, few);
+  }
+
   -- where the same stations wait
   pub same_waiting : (s0 : View L G) (m : Memory L G S) (picks : ℕ) (q : S) → Seg s0 m picks → ((v : ℕ) → c.waits q v ≡ c.waits m.list v)
       → Seg s0 (moved m m.plan q) picks
-  same_waiting s0 m picks q seg same = record {
-    sized = record { labels_n = seg.sized.labels_n; entries_n = seg.sized.entries_n; grades_m = seg.sized.grades_m };
-    inv = record {
-      gate_here = seg.inv.gate_here;
-      gate_label = seg.inv.gate_label;
-      gate_entry = seg.inv.gate_entry;
-      grown = seg.inv.grown;
-      settled = λ l in_net lab done. seg.inv.settled l in_net lab (sym (same (tail_at t l)) ∙ done);
-    };
-    netted = λ v h. seg.netted v (sym (same v) ∙ h);
-    ways = seg.ways;
-    hist = record { gr_same = seg.hist.gr_same; once = seg.hist.once; closed = seg.hist.closed; made = seg.hist.made; past = seg.hist.past };
-    count = omega (arith, seg.count, count_same (c.waits q) (c.waits m.list) 1024 (λ v below. same v));
-  }
+  same_waiting s0 m picks q seg same =
+      with_list s0 [] [] m picks picks q seg (λ v h. sym (same v) ∙ h) (λ l in_net lab off none. (sym (same (tail_at t l)) ∙ off, none))
+      (omega (arith, count_same (c.waits q) (c.waits m.list) 1024 (λ v below. same v)))

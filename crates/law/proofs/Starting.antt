@@ -1,7 +1,8 @@
 -- A start begins a stretch of calls.
-use Rattle.std.proofs.Common.{◌≡◌, ℕ, ◌<◌, Bool, true, false, ◌||◌, ◌==◌, List, [], length, replicate, None, refl, sym, ap, ◌∙◌, subst, inl, inr, arith, get_or-set_other, get_or-set_same, length-set}
+use Rattle.std.proofs.Common.{◌≡◌, ℕ, ◌<◌, true, ◌||◌, ◌==◌, List, [], length, replicate, None, refl, sym, ap, ◌∙◌, subst, inl, inr, arith, get_or-set_other, get_or-set_same, length-set}
 use lib.ListN.{length-replicate}
 use Rattle.std.proofs.lemmas.List.{get_or-replicate, get_or_past}
+use Rattle.std.proofs.Math.Bool.{or-false}
 use Rattle.std.proofs.lemmas.Bool.{cases_eq, cases_lt, eq-eqb, eqb-true, both_ways}
 use Rattle.kinds.specs.declared.kind.Kind.{Ghosts as Kind}
 use Rattle.kinds.specs.Laws.{Laws}
@@ -14,10 +15,6 @@ use Rattle.runs.specs.Calls.{Memory, Starts, start, refusal}
 use Rattle.law.proofs.Invariant.{Fit, view, Sized, Lab, Inv}
 use Rattle.law.proofs.Accepting.{start_passed}
 use Rattle.law.proofs.Segments.{Seg, fresh_seg, memory_same}
-
-or_false : (b : Bool) → (b || false) ≡ b
-or_false true = refl
-or_false false = refl
 
 module _ {S K L G : Type 0} (k : Kind K L G) (c : Candidates S K L G) (t : Table)
     (laws : Laws k.carry k.at_least k.rank) (lists : ListLaws c.waits c.emptied c.entered c.picked) (fit : Fit t) where
@@ -60,7 +57,7 @@ module _ {S K L G : Type 0} (k : Kind K L G) (c : Candidates S K L G) (t : Table
       let labels = (first_plan k (station_count t) g).labels in
       let alone : (v : ℕ) → c.waits u.list v ≡ (v == g) = λ v.
       ap (λ y. c.waits y v) same ∙ lists.adds e g labels r (omega (arith, low, fit.small)) entered v
-      ∙ ap (λ b. v == g || b) (lists.clears m.list e emptied v) ∙ or_false (v == g) in
+      ∙ ap (λ b. v == g || b) (lists.clears m.list e emptied v) ∙ or-false (v == g) in
       let whole : begun m.grades g u.list low ≡ u =
       memory_same (begun m.grades g u.list low) u (sym starts.book.0) (sym starts.book.1) (sym starts.grades) (sym starts.plan) refl in
       subst (λ y. Seg k c t (view k c y) y 0) whole (begun-seg m.grades g u.list low tested.grades_m alone)

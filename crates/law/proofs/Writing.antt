@@ -22,8 +22,8 @@ on_end t (l ∷ p) v = inl refl
 
 module _ {K L G : Type 0} (k : Kind K L G) (t : Table) where
   -- the head of link l has what the link offers, or better
-  abbrev pub Served : View L G → ℕ → Type 0
-  Served s l = (a : L) → offer k t s l ≡ Some a → Lab k t s (head_at t l) × AtLeast k (s.lab (head_at t l)) a
+  abbrev pub HeadServed : View L G → ℕ → Type 0
+  HeadServed s l = (a : L) → offer k t s l ≡ Some a → Lab k t s (head_at t l) × AtLeast k (s.lab (head_at t l)) a
 
   -- u is s with the label a and the entry l written at the head of l, which waits now
   pub record Wrote (s u : View L G) (l : ℕ) (a : L) : Type 0 where
@@ -174,14 +174,14 @@ module _ {K L G : Type 0} (k : Kind K L G) (laws : Laws k.carry k.at_least k.ran
 
 module _ {K L G : Type 0} (k : Kind K L G) (t : Table) (s : View L G) (l : ℕ) (pend : List ℕ) where
   -- there is nothing to write at l
-  pub passed_inv : (head_at t l ≢ s.gw → Served k t s l) → Inv k t s (l ∷ pend) → Inv k t s pend
+  pub passed_inv : (head_at t l ≢ s.gw → HeadServed k t s l) → Inv k t s (l ∷ pend) → Inv k t s pend
   passed_inv ok inv = record {
     gate_here = inv.gate_here;
     gate_label = inv.gate_label;
     gate_entry = inv.gate_entry;
     grown = inv.grown;
     settled = λ j in_net lab done not_gate none. elim (cases_eq j l) [
-      | inl e ↦ subst (λ y. Served k t s y) (sym e) (ok (λ f. not_gate (ap (head_at t) e ∙ f)))
+      | inl e ↦ subst (λ y. HeadServed k t s y) (sym e) (ok (λ f. not_gate (ap (head_at t) e ∙ f)))
       | inr ne ↦ inv.settled j in_net lab done not_gate (λ m. elim m [ inl e ↦ ne e | inr n ↦ none n ])
     ];
   }

@@ -4,18 +4,22 @@ use Rattle.std.proofs.lemmas.Bool.{cases_lt, cases_Bool}
 use borrow.Author.Count.{below_more}
 use Rattle.net.specs.First.{first_below}
 
--- none of the first n passes, nor the next: none of one more
-below_suc : (p : ℕ → Bool) (n : ℕ) → ((k : ℕ) → k < n → p k ≡ false) → p n ≡ false → (k : ℕ) → k < suc n → p k ≡ false
+-- none of the first n passes
+abbrev pub NoneBelow : (ℕ → Bool) → ℕ → Type 0
+NoneBelow p n = (k : ℕ) → k < n → p k ≡ false
+
+-- nor the next: none of one more
+below_suc : (p : ℕ → Bool) (n : ℕ) → NoneBelow p n → p n ≡ false → NoneBelow p (suc n)
 below_suc p n h f k l = below_more (λ j. p j ≡ false) n h f k (omega arith)
 
 -- none passes: the answer is none
-pub none_is : (p : ℕ → Bool) (n : ℕ) → ((k : ℕ) → k < n → p k ≡ false) → first_below p n ≡ None
+pub none_is : (p : ℕ → Bool) (n : ℕ) → NoneBelow p n → first_below p n ≡ None
 unfolding first_below
 none_is p zero h = refl
 none_is p (suc n) h = rw (none_is p n (λ k l. h k (omega arith)), h n (omega arith))
 
 -- k passes, and none before it: the answer is k
-pub first-is : (p : ℕ → Bool) (n k : ℕ) → k < n → p k ≡ true → ((j : ℕ) → j < k → p j ≡ false) → first_below p n ≡ Some k
+pub first-is : (p : ℕ → Bool) (n k : ℕ) → k < n → p k ≡ true → NoneBelow p k → first_below p n ≡ Some k
 unfolding first_below
 first-is p zero k l t h = absurd (omega arith)
 first-is p (suc n) k l t h =
@@ -26,8 +30,8 @@ first-is p (suc n) k l t h =
 
 -- either none passes and the answer is none, or the answer is the first that does
 pub first-tells : (p : ℕ → Bool) (n : ℕ)
-    → (((k : ℕ) → k < n → p k ≡ false) × (first_below p n ≡ None))
-    ⊎ ((k : ℕ) × (k < n) × (p k ≡ true) × ((j : ℕ) → j < k → p j ≡ false) × (first_below p n ≡ Some k))
+    → (NoneBelow p n × (first_below p n ≡ None))
+    ⊎ ((k : ℕ) × (k < n) × (p k ≡ true) × NoneBelow p k × (first_below p n ≡ Some k))
 unfolding first_below
 first-tells p zero = inl (λ k l. absurd (omega arith), refl)
 first-tells p (suc n) =
@@ -41,7 +45,7 @@ first-tells p (suc n) =
     ]
 
 -- the answer is none: none passes
-pub none-says : (p : ℕ → Bool) (n : ℕ) → first_below p n ≡ None → (k : ℕ) → k < n → p k ≡ false
+pub none-says : (p : ℕ → Bool) (n : ℕ) → first_below p n ≡ None → NoneBelow p n
 none-says p n e =
     elim (first-tells p n) [
       | inl (h, _) ↦ h

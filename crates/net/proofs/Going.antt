@@ -16,10 +16,6 @@ pub record Going (t : Table) (s : ℕ) (r : Range ℕ) : Type 0 where
   pub to : r.end ≡ first_link t (s + 1)
 
 module _ {t : Table} (star : ForwardStar t) {s : ℕ} {r : Range ℕ} where
-  -- before the first one
-  pub going-first : s + 1 ≤ station_count t → r.start ≡ first_link t s → r.end ≡ first_link t (s + 1) → Going t s r
-  going-first station first end = record { station = omega arith; from = omega arith; within = rw (first, end) (star.rising s (omega arith)); to = end }
-
   -- the next one is a link of the station
   pub going-leaves : {l : ℕ} {q : Range ℕ} → Gives r l q → Going t s r → Leaves t l s
   going-leaves gives g = record { station = g.station; from = omega (arith, g.from, gives); to = omega (arith, g.to, gives) }
@@ -31,7 +27,3 @@ module _ {t : Table} (star : ForwardStar t) {s : ℕ} {r : Range ℕ} where
   -- after it
   pub going-next : {l : ℕ} {q : Range ℕ} → Gives r l q → Going t s r → Going t s q
   going-next gives g = record { station = g.station; from = omega (arith, g.from, gives); within = omega (arith, gives); to = gives.0 ∙ g.to }
-
-  -- none is left
-  pub going-last : r.end - r.start ≡ 0 → Going t s r → r.start ≡ first_link t (s + 1)
-  going-last none g = omega (arith, g.within, g.to)

@@ -1,9 +1,11 @@
 // The planner's program: reads a site script from a file or from standard input, and answers each command by one line.
 #![tactic(auto)]
 
-use anyhow::anyhow;
+use anyhow::{Context, bail};
 use site::desk::Desk;
+use std::fmt::Display;
 use std::io::{BufRead, BufReader};
+use std::process::ExitCode;
 use std::{env, fs};
 
 const HELP: &str = "usage: planner [--help | FILE]
@@ -45,37 +47,58 @@ refused <number> place <place> layer <layer>. A line that cannot be carried out 
 and the script goes on.
 ";
 
-// Answers a script line by line, so that each answer is out before the next line is waited for.
-fn serve<R: BufRead + Drop>(rt: &HostRuntime, reader: R) -> anyhow::Result<()> {
+// Answers the script of this name line by line, so that each answer is out before the next line is waited for.
+fn serve<N: Display, R: BufRead + Drop>(
+    rt: &HostRuntime,
+    name: &N,
+    reader: R,
+) -> anyhow::Result<()> {
     let heap = rt.alloc();
     let mut desk = Desk::new();
     for (number, line) in (1..).zip(reader.split(heap, b'\n')) {
-        let line = line?;
-        if let Some(text) = desk.reply(heap, number, line.as_slice())? {
-            println!(rt; "{text}")?;
+        let line = line.context(format_args!("cannot read line {number} of {name}"))?;
+        let reply = desk
+            .reply(heap, number, line.as_slice())
+            .context(format_args!("cannot answer line {number} of {name}"))?;
+        if let Some(text) = reply {
+            println!(rt; "{text}").context(format_args!(
+                "cannot write the answer to line {number} of {name}"
+            ))?;
         }
     }
     Ok(())
 }
 
 fn run(rt: &HostRuntime) -> anyhow::Result<()> {
-    let mut args = env::args(rt)?.skip(1);
+    let mut args = env::args(rt)
+        .context("cannot read the arguments as text")?
+        .skip(1);
     let Some(path) = args.next() else {
-        return serve(rt, BufReader::new(rt.alloc(), rt.stdin())?);
+        let reader = BufReader::new(rt.alloc(), rt.stdin()).context("cannot begin")?;
+        return serve(rt, &"standard input", reader);
     };
+    let path = path.as_str();
     if args.next().is_some() {
-        return Err(anyhow!("one script at a time: planner [--help | FILE]"));
+        bail!("one script at a time: planner [--help | FILE]");
     }
-    if path.as_str() == "--help" {
-        print!(rt; "{HELP}")?;
-        return Ok(());
+    if path == "--help" {
+        return print!(rt; "{HELP}").context("cannot write the help");
     }
-    serve(
-        rt,
-        BufReader::new(rt.alloc(), fs::open(rt, path.as_str())?)?,
-    )
+    if path.starts_with('-') {
+        bail!("no such option: planner [--help | FILE]; a file of that name is ./{path:?}");
+    }
+    let file = fs::open(rt, path).context(format_args!("cannot open {path:?}"))?;
+    let reader = BufReader::new(rt.alloc(), file).context("cannot begin")?;
+    serve(rt, &format_args!("{path:?}"), reader)
 }
 
-fn main(rt: HostRuntime) -> anyhow::Result<()> {
-    run(&rt)
+fn main(rt: HostRuntime) -> ExitCode {
+    match run(&rt) {
+        Ok(()) => ExitCode::SUCCESS,
+        Err(error) => {
+            // Where the message cannot be written, the status tells it alone.
+            let _ = eprintln!(rt; "planner: {error:#}");
+            ExitCode::FAILURE
+        }
+    }
 }

@@ -1,5 +1,6 @@
 pub mod Labels
 pub mod Labelled
+pub mod Offering
 pub mod Tests
 pub mod Grades
 pub mod Homeward

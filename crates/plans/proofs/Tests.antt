@@ -1,7 +1,7 @@
 -- Tests one after the other refuse nothing exactly where each passes.
-use Rattle.std.proofs.Common.{◌≡◌, ℕ, ◌<◌, Bool, true, false, Some, None, Option, refl}
+use Rattle.std.proofs.Common.{◌≡◌, ℕ, Bool, true, false, Some, None, Option, refl}
 use Rattle.net.specs.First.{first_below}
-use Rattle.net.proofs.Firsts.{none-says, none_is}
+use Rattle.net.proofs.Firsts.{NoneBelow, none-says, none_is}
 use Rattle.plans.specs.Tests.{unless, at_first}
 
 module _ {E : Type 0} where
@@ -18,9 +18,9 @@ module _ {E : Type 0} where
   found_none f (Some place) rest e = absurd cc
 
   pub first_none : (f : ℕ → E) (fault : ℕ → Bool) (n : ℕ) (rest : Option E) → at_first f (first_below fault n) rest ≡ None
-      → ((place : ℕ) → place < n → fault place ≡ false) × (rest ≡ None)
+      → NoneBelow fault n × (rest ≡ None)
   first_none f fault n rest e = let r = found_none f (first_below fault n) rest e in (none-says fault n r.0, r.1)
 
-  pub none_first : (f : ℕ → E) (fault : ℕ → Bool) (n : ℕ) (rest : Option E) → ((place : ℕ) → place < n → fault place ≡ false)
+  pub none_first : (f : ℕ → E) (fault : ℕ → Bool) (n : ℕ) (rest : Option E) → NoneBelow fault n
       → rest ≡ None → at_first f (first_below fault n) rest ≡ None
   none_first f fault n rest h e = rw (none_is fault n h) e

@@ -1,11 +1,10 @@
 -- A check finds no fault exactly in what is sound.
-use Rattle.std.proofs.Common.{◌≡◌, ℕ, ◌<◌, ◌≤◌, ◌≢◌, Bool, true, false, ◌&&◌, eqb, List, length, Some, None, sym, refl, ap, ◌∙◌, inl, inr, arith}
+use Rattle.std.proofs.Common.{◌≡◌, ℕ, ◌<◌, ◌≤◌, ◌≢◌, Bool, true, false, ◌&&◌, eqb, List, length, Some, None, sym, refl, ◌∙◌, inl, inr, arith}
 use Rattle.std.proofs.lemmas.Bool.{cases_Bool, both_ways, and_parts, and_from, and_left, and_right, not-true, not-false, not_from_true, not_from_false, ltb-true, lt-ltb, eqb-true, eq-eqb, eqb-false, ne_eqb}
 use Rattle.std.proofs.lemmas.Option.{slice_get_cases}
 use Rattle.kinds.specs.declared.kind.Kind.{Ghosts as Kind}
 use Rattle.kinds.specs.Laws.{Laws}
 use Rattle.net.specs.Table.{Table, station_count, link_count, head_at, tail_at}
-use Rattle.paths.specs.Grade.{carried_over}
 use Rattle.walks.specs.Walk.{own, entry_at, labelled, moves, walk_end, passes}
 use Rattle.walks.proofs.Homing.{passes-end}
 use Rattle.plans.specs.Plan.{Plan, graded, label_at}
@@ -14,6 +13,7 @@ use Rattle.plans.specs.Faults.{entry_fault, walk_fault, link_fault, first_fault}
 use Rattle.plans.proofs.Tests.{unless_none, none_unless, first_none, none_first}
 use Rattle.plans.proofs.Comparing.{same_is, is_same, just_is, is_just, declined, declines}
 use Rattle.plans.proofs.Labelled.{own_stops, sized_within}
+use Rattle.plans.proofs.Offering.{offered-is}
 use Rattle.plans.proofs.Sound.{HandedOn, Served, Sound}
 
 -- two tests fail together: where the one passes, the other fails
@@ -27,7 +27,7 @@ fail-together x y h = elim (cases_Bool x) [ inl e ↦ and_right _ _ (h e) | inr 
 pub link-offers : {K L G : Type 0} (k : Kind K L G) (t : Table) (grades : List G) (p : Plan L) → graded t grades ≡ true → (x l : ℕ) → l < link_count t
     → (a : L) × (offered k grades p x l ≡ Some a)
 link-offers k t grades p long x l h = elim ((slice_get_cases grades l).1) [
-  | inl q ↦ (k.carry (label_at k p x) q.0, ap (carried_over k (label_at k p x)) q.2)
+  | inl (g, below, _, grade) ↦ (k.carry (label_at k p x) g, offered-is k grades p x l (label_at k p x) g _ refl below (sym grade) refl)
   | inr q ↦ absurd (omega (arith, q.0, eqb-true (length grades) (link_count t) long, h))
 ]
 

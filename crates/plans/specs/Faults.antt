@@ -24,7 +24,7 @@ module _ {K L G : Type 0} (k : Ghosts K L G) where
   abbrev pub rooted : ℕ → Plan L → Bool
   rooted gateway p = same (label_at k p gateway) k.start && entry_at p.entries gateway == own
 
-  -- from station x, if there is one, comes the label of station v, over its entry link; x is labelled
+  -- there is a station x, it is labelled, and its label carried over the entry link of v is the label of v
   abbrev pub handed_by : List G → Plan L → Option ℕ → ℕ → Bool
   handed_by grades p None v = false
   handed_by grades p (Some x) v = labelled p.entries x && offers_just (offered k grades p x (entry_at p.entries v)) (label_at k p v)

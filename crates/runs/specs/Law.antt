@@ -81,7 +81,7 @@ module _ {S K L G : Type 0} (k : Kind K L G) (c : Candidates S K L G) (t : Table
 
   -- What is promised of a run whose last call, with its answer, led from memory m to memory u, after those of the log.
   pub record Promise (m : Memory L G S) (a : Call G) (b : Answer L) (earlier : List (Event L G)) (u : Memory L G S) : Type 0 where
-    -- the book records the last accepted start
+    -- the book records that it was started, and the gateway of the last accepted start
     pub recorded : (g : ℕ) → gateway_since (event a b ∷ earlier) ≡ Some g → (u.started ≡ true) × (u.gateway ≡ g)
     -- at rest, every station has the best of its paths from the gateway of the last accepted start, by the grades of that moment
     pub best : (g : ℕ) → gateway_since (event a b ∷ earlier) ≡ Some g → AtRest c u.list → BestPaths k t g u.grades u.plan

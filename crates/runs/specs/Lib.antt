@@ -1,8 +1,6 @@
 pub mod Acts
-pub mod ActsLemmas
 pub mod Scan
 pub mod Regrade
 pub mod Calls
 pub mod Law
 pub mod Ordered
-pub mod OrderedLemmas

@@ -1,7 +1,6 @@
 -- The parts of a line between its blanks, without the empty ones, are its words.
-use Rattle.std.proofs.Common.{◌≡◌, ℕ, Bool, true, not, eqb, List, [], ◌∷◌, ◌++◌, length, refl, ap, sym, ◌∙◌, inl, inr, append_assoc, append-nil, arith, ◌+◌, ◌-◌, ◌<◌, ◌≤◌, get_or, take, drop, length-drop, get_or-drop}
+use Rattle.std.proofs.Common.{◌≡◌, ℕ, Bool, true, not, eqb, List, [], ◌∷◌, ◌++◌, length, refl, ap, sym, ◌∙◌, inl, inr, append_assoc, append-nil, arith}
 use Rattle.std.proofs.lemmas.Bool.{cases_Bool}
-use Rattle.std.proofs.lemmas.List.{take_more}
 use Rattle.std.specs.List.{filter, slice_split, onto_first}
 use Rattle.script.specs.Words.{blank, ended, words_from, words_of}
 
@@ -42,22 +41,3 @@ parted w (b ∷ bs) =
 
 pub parted_words : (line : List ℕ) → words_of line ≡ filter some (slice_split blank line)
 parted_words line = parted [] line ∙ ap (filter some) (onto-none line)
-
--- the bytes of a line from one place up to another
-abbrev pub under : List ℕ → ℕ → ℕ → List ℕ
-under line from i = take (i - from) (drop from line)
-
--- they are one more with the byte at the end
--- (nothing cites it today; the record of the move names it)
-pub under_more : (line : List ℕ) (from i : ℕ) → from ≤ i → i < length line → under line from (i + 1) ≡ under line from i ++ get_or line i 0 ∷ []
-under_more line from i h l =
-    let e : i + 1 - from ≡ i - from + 1 = omega arith in
-    let k : i - from < length (drop from line) = simp length-drop (omega arith) in
-    let d : from + (i - from) ≡ i = omega arith in
-    ap (λ n. take n (drop from line)) e ∙ take_more (drop from line) (i - from) 0 k
-    ∙ ap (λ b. under line from i ++ b ∷ []) (get_or-drop from line (i - from) 0 ∙ ap (λ n. get_or line n 0) d)
-
--- (nothing cites it today; the record of the move names it)
-pub ended_some : (w : List ℕ) → 0 < length w → ended w [] ≡ w ∷ []
-ended_some [] h = absurd (omega arith)
-ended_some (b ∷ bs) h = refl

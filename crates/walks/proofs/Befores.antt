@@ -8,8 +8,7 @@ use Rattle.std.specs.declared.ops.Range.{Range}
 use Rattle.net.specs.Table.{Table, ForwardStar}
 use Rattle.net.proofs.Going.{Gives, Going, going-leaves}
 use Rattle.net.proofs.Tails.{tail-is}
-use Rattle.walks.specs.Search.{MovesOver}
-use Rattle.walks.specs.Walk.{entry_at, before}
+use Rattle.walks.specs.Walk.{entry_at, MovesOver, before}
 use Rattle.walks.proofs.Searching.{moves-station, moves_over-one}
 
 module _ (t : Table) (entries : List ℕ) where

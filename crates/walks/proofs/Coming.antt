@@ -3,8 +3,8 @@ use Rattle.std.proofs.Common.{◌≡◌, ℕ, zero, suc, ◌<◌, ◌≤◌, Boo
 use Rattle.std.proofs.lemmas.Bool.{cases_Bool, eq-eqb, eqb-true, or_cases, or_left, or_right, false_from_ne_true}
 use Rattle.net.specs.Table.{Table, ForwardStar, station_count, tail_at}
 use Rattle.net.proofs.Tails.{tail-leaves}
-use Rattle.walks.specs.Walk.{entry_at, moves, met_back, comes}
-use Rattle.walks.specs.Search.{MovesTo, Reached}
+use Rattle.walks.specs.Walk.{entry_at, moves, MovesTo, met_back, comes}
+use Rattle.walks.specs.Search.{Reached}
 use Rattle.walks.proofs.Searching.{moves-parts, moves-station}
 
 module _ (t : Table) (entries : List ℕ) (root : ℕ) where

@@ -5,8 +5,8 @@ use Rattle.std.proofs.lemmas.Bool.Decides.{same_from_decides}
 use Rattle.lists.specs.Meaning.{count_below}
 use Rattle.lists.specs.Counts.{count_most}
 use Rattle.net.specs.Table.{Table, ForwardStar, station_count}
-use Rattle.walks.specs.Walk.{comes}
-use Rattle.walks.specs.Search.{MovesTo, Reached}
+use Rattle.walks.specs.Walk.{MovesTo, comes}
+use Rattle.walks.specs.Search.{Reached}
 use Rattle.walks.proofs.Marks.{counted_stations}
 use Rattle.walks.proofs.Searching.{moves-station}
 use Rattle.walks.proofs.Coming.{comes_more, comes_marked, place_comes}

@@ -32,7 +32,7 @@ counted_stations {t = t} star f g same none =
     rw all (count_past f (station_count t) (1024 - station_count t) none) ∙ count_same f g (station_count t) same
 
 module _ (marks : List Bool) (x : ℕ) (below : x < length marks) where
-  pub marked_more : (v : ℕ) → marked_in (set marks x true) v ≡ (eqb v x || marked_in marks v)
+  marked_more : (v : ℕ) → marked_in (set marks x true) v ≡ (eqb v x || marked_in marks v)
   marked_more v =
       elim (cases_eq v x) [
         | inl e ↦ rw (e, eq-eqb x x refl, get_or-set_same marks x true false below)

@@ -3,8 +3,7 @@ use Rattle.std.proofs.Common.{◌≡◌, ℕ, zero, suc, ◌-◌, Bool, true, fa
 use Rattle.std.specs.List.{list_any}
 use Rattle.std.proofs.lemmas.Bool.{cases_Bool, cases_eq, eq-eqb, ne_eqb}
 use Rattle.net.specs.Table.{Table, ForwardStar, station_count}
-use Rattle.walks.specs.Walk.{entry_at, moves, walk, met_back, crosses, comes}
-use Rattle.walks.specs.Search.{MovesOver}
+use Rattle.walks.specs.Walk.{entry_at, moves, MovesOver, walk, crosses, met_back, comes}
 use Rattle.walks.proofs.Searching.{moves_over-one}
 use Rattle.walks.proofs.Coming.{comes_there}
 

@@ -3,8 +3,8 @@ use Rattle.std.proofs.Common.{◌≡◌, ℕ, ◌+◌, ◌<◌, ◌≤◌, Bool,
 use Rattle.std.proofs.lemmas.Bool.{cases_lt, eq-eqb, eqb-true, ltb-true, and_parts, or_cases, or_left, or_right}
 use Rattle.net.specs.Table.{Table, ForwardStar, Leaves, station_count, link_count, head_at, tail_at}
 use Rattle.net.proofs.Tails.{tail-is, tail-leaves, lands}
-use Rattle.walks.specs.Walk.{entry_at, moves}
-use Rattle.walks.specs.Search.{MovesOver, MovesTo, Reached, Kept}
+use Rattle.walks.specs.Walk.{entry_at, moves, MovesOver, MovesTo}
+use Rattle.walks.specs.Search.{Reached, Kept}
 
 -- the entry of a station from which the walk moves is a link to it
 pub moves-parts : (t : Table) (entries : List ℕ) (v : ℕ) → moves t entries v ≡ true → (entry_at entries v < link_count t) × (head_at t (entry_at entries v) ≡ v)

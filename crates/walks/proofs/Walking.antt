@@ -2,8 +2,7 @@
 use Rattle.std.proofs.Common.{◌≡◌, ℕ, zero, suc, ◌+◌, ◌-◌, ◌<◌, ◌≤◌, false, List, [], ◌∷◌, ◌++◌, length, take, set, Some, None, sym, refl, ap, ◌∙◌, arith, append_assoc}
 use Rattle.std.proofs.lemmas.List.{append-nil, take_more_set, length-take-le}
 use Rattle.net.specs.Table.{Table}
-use Rattle.walks.specs.Search.{MovesTo}
-use Rattle.walks.specs.Walk.{entry_at, moves, before, walk, walk_end}
+use Rattle.walks.specs.Walk.{entry_at, moves, MovesTo, before, walk, walk_end}
 
 module _ (t : Table) (entries : List ℕ) where
   -- there is no station to which it moves, or this one
@@ -25,7 +24,7 @@ module _ (t : Table) (entries : List ℕ) where
   walk_end-stops (suc k) v still = rw still
 
   -- i moves of n are made, and one more comes
-  pub walk_goes : (n i v u : ℕ) → i < n → Some u ≡ before t entries v
+  walk_goes : (n i v u : ℕ) → i < n → Some u ≡ before t entries v
       → walk t entries (n - i) v ≡ entry_at entries v ∷ walk t entries (n - (i + 1)) u
   unfolding walk
   walk_goes n i v u more to =

@@ -1,5 +1,5 @@
 -- The backward walk: from a station by its entry link to the link's tail, and on from there. The entries may hold anything.
-use Rattle.std.specs.Prelude.{ℕ, zero, suc, Bool, if◌then◌else◌, not, ◌&&◌, List, [], ◌∷◌, reverse, Some, None, Option, ◌==◌, nat_lt, slice_index_or}
+use Rattle.std.specs.Prelude.{◌≡◌, ℕ, zero, suc, Bool, true, if◌then◌else◌, not, ◌&&◌, List, [], ◌∷◌, reverse, Some, None, Option, ◌==◌, nat_lt, slice_index_or}
 use Rattle.std.specs.List.{list_any}
 use Rattle.net.specs.Table.{Table, station_count, link_count, head_at, tail_at}
 
@@ -21,6 +21,14 @@ module _ (t : Table) (entries : List ℕ) where
   -- the entry of station v is a link that leads to v
   abbrev pub moves : ℕ → Bool
   moves v = nat_lt (entry_at entries v) (link_count t) && head_at t (entry_at entries v) == v
+
+  -- the backward walk moves from station v over link l
+  abbrev pub MovesOver : ℕ → ℕ → Type 0
+  MovesOver l v = (moves v ≡ true) × (entry_at entries v ≡ l)
+
+  -- the backward walk moves from station v to station u
+  abbrev pub MovesTo : ℕ → ℕ → Type 0
+  MovesTo v u = (moves v ≡ true) × (tail_at t (entry_at entries v) ≡ u)
 
   -- the station to which the walk moves from v, if it moves
   abbrev pub before : ℕ → Option ℕ

@@ -1,7 +1,7 @@
 // Which station's backward walk moves over a link.
 ghost use Rattle.std.specs.Prelude.{ℕ, MatchOption};
 ghost use Rattle.net.specs.View.{table_of};
-ghost use Rattle.walks.specs.Search.{MovesOver};
+ghost use Rattle.walks.specs.Walk.{MovesOver};
 
 use crate::entry::entry_of;
 use net::star::Net;

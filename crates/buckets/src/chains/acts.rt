@@ -14,8 +14,7 @@ use std::array;
 // Nodes that are each tied to itself.
 fn empty_nodes() -> [Node; 1088]
     ensures wide { length result ≡ 1088 }
-    ensures next { (k : ℕ) → k < 1088 → slice_index (nexts result) k ≡ k }
-    ensures prev { (k : ℕ) → k < 1088 → slice_index (prevs result) k ≡ k }
+    ensures tied { (k : ℕ) → k < 1088 → (slice_index (nexts result) k ≡ k) × (slice_index (prevs result) k ≡ k) }
 {
     array::from_fn(|i| Node {
         next: i as u16,

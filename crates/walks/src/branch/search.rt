@@ -5,8 +5,8 @@ ghost use Rattle.lists.specs.Meaning.{count_below};
 ghost use Rattle.net.specs.Table.{station_count};
 ghost use Rattle.net.specs.View.{table_of};
 ghost use Rattle.walks.specs.Branches.{marked};
-ghost use Rattle.walks.specs.Search.{MovesTo, Reached, Kept};
-ghost use Rattle.walks.specs.Walk.{crosses, comes, passes};
+ghost use Rattle.walks.specs.Search.{Reached, Kept};
+ghost use Rattle.walks.specs.Walk.{MovesTo, crosses, comes, passes};
 
 use super::Branch;
 use crate::entered::entered;

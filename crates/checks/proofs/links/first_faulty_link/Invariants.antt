@@ -2,10 +2,10 @@
 use Rattle.std.proofs.Common.{◌≡◌, None}
 use Rattle.net.specs.Table.{first_link}
 use Rattle.net.specs.View.{table_of}
+use Rattle.net.proofs.Firsts.{NoneBelow}
 use Rattle.net.proofs.Going.{Going}
 use Rattle.plans.specs.Faults.{link_fault}
 use Rattle.plans.specs.Plan.{plan}
-use Rattle.checks.proofs.Faultless.{NoneBelow}
 use Rattle.checks.proofs.links.first_faulty_link.Given as goal
 
 abbrev pub invariant-stations : goal.invariant-stations

@@ -5,7 +5,7 @@ use Rattle.buckets.proofs.chains.Chains.new.Goals as goal
 
 pub invariant_of-result : goal.invariant_of-result
 invariant_of-result c =
-    let w = fresh-settled _ _ c.empty_nodes.ensures.next c.empty_nodes.ensures.prev in
+    let w = fresh-settled _ _ c.empty_nodes.ensures.tied in
     record {
       sized = (c.empty_nodes.ensures.wide, refl);
       ties = w.tied;
@@ -16,4 +16,4 @@ invariant_of-result c =
     }
 
 pub returns : goal.returns
-returns c = (fresh-settled _ _ c.empty_nodes.ensures.next c.empty_nodes.ensures.prev).are
+returns c = (fresh-settled _ _ c.empty_nodes.ensures.tied).are

@@ -4,7 +4,7 @@ use Rattle.net.specs.View.{table_of}
 use Rattle.net.proofs.Going.{going-leaves, going-next}
 use Rattle.net.proofs.Tails.{star_of}
 use Rattle.walks.specs.Branches.{marked}
-use Rattle.walks.specs.Search.{MovesTo}
+use Rattle.walks.specs.Walk.{MovesTo}
 use Rattle.walks.proofs.Searching.{moves_to-leaves, moves_over-to, reached_more, passed_more, kept_more, kept_then}
 use Rattle.walks.proofs.branch.search.spread.Goals as goal
 
