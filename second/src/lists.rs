@@ -134,7 +134,7 @@ mod tests {
     ];
 
     pub fn list(kind: Kind, design: Design) -> List {
-        List::new(kind, design).ok().expect("a lawful list")
+        List::new(kind, design).expect("a lawful list")
     }
 
     /// Enters stations that were not waiting, all with the same labels.
