@@ -82,7 +82,7 @@ pub struct Reached {
 }
 
 // What a command that was carried out, or refused, answers. It is not `Copy`, since it owns the values that it lists.
-#[derive(Debug, Drop)]
+#[derive(Clone, Debug, Drop)]
 pub enum Answer {
     // So many stations and links.
     Net(u16, u16),

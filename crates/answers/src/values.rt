@@ -6,7 +6,7 @@ use std::fmt;
 use std::marker::Model;
 
 // Values in their order. Contracts see the list of them alone, and neither its capacity nor where it lies, so that a definition can say which answer comes.
-#[derive(Debug, Drop)]
+#[derive(Clone, Debug, Drop)]
 pub struct Values<T> {
     items: Vec<T>,
 }

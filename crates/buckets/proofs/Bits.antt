@@ -11,7 +11,7 @@ use Rattle.buckets.specs.Sets.{has_bit}
 use Rattle.buckets.specs.Firsts.{next_from}
 use Rattle.buckets.specs.FirstsLemmas.{found_up, found-round, found_none}
 
-bit-shr : (w a j : ℕ) → has_bit (w / 2 ^ a) j ≡ has_bit w (a + j)
+pub bit-shr : (w a j : ℕ) → has_bit (w / 2 ^ a) j ≡ has_bit w (a + j)
 unfolding has_bit
 bit-shr w a j = ap (λ n. n % 2 == 1) (shr-shr w a j)
 
@@ -23,11 +23,11 @@ bit-none k = ap (λ d. d == 1) (bit_at-zero k)
 high-zero : (w k : ℕ) → w < 2 ^ 64 → 64 ≤ k → bit_at w k ≡ 0
 high-zero w k h l = ap (λ n. n % 2) (div-eq_of_lt (lt_of_lt_of_le h (pow_mono l)))
 
-bit_high : (w k : ℕ) → w < 2 ^ 64 → 64 ≤ k → has_bit w k ≡ false
+pub bit_high : (w k : ℕ) → w < 2 ^ 64 → 64 ≤ k → has_bit w k ≡ false
 unfolding has_bit
 bit_high w k h l = ap (λ d. d == 1) (high-zero w k h l)
 
-bit_below : (w k : ℕ) → w < 2 ^ 64 → has_bit w k ≡ true → k < 64
+pub bit_below : (w k : ℕ) → w < 2 ^ 64 → has_bit w k ≡ true → k < 64
 bit_below w k h e = ⊎_elim (λ l. l) (λ l. absurd (both_ways (has_bit w k) (bit_high w k h l) e)) (cases_lt k 64)
 
 -- one bit more, and one bit less

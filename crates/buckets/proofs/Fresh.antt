@@ -1,4 +1,4 @@
--- Chains whose nodes are each tied to itself, and which no station is in.
+-- Chains whose ends are each tied to itself, and which no station is in.
 use Rattle.std.proofs.Common.{◌≡◌, ℕ, ◌+◌, ◌<◌, ◌≤◌, List, [], is_some, Some, None, Option, slice_index, slice_index_or, replicate, sym, refl, ap, ◌∙◌, ⊎_elim, arith}
 use Rattle.std.specs.Option.{ForSome}
 use Rattle.std.proofs.lemmas.List.{get_or-replicate, get_or_past, length-replicate}
@@ -15,10 +15,10 @@ no_homes = replicate 1024 None
 homeless : (k : ℕ) → slice_index_or no_homes k None ≡ None
 homeless k = ⊎_elim (λ l. get_or-replicate 1024 k None None l) (λ (g : 1024 ≤ k). get_or_past no_homes k None (omega (arith, length-replicate {A = Option ℕ} 1024 None))) (cases_lt k 1024)
 
-pub fresh-settled : (next prev : List ℕ) → ((k : ℕ) → k < 1088 → (slice_index next k ≡ k) × (slice_index prev k ≡ k)) → Settled next prev no_homes (λ b. [])
+pub fresh-settled : (next prev : List ℕ) → ((k : ℕ) → 1024 ≤ k → k < 1088 → (slice_index next k ≡ k) × (slice_index prev k ≡ k)) → Settled next prev no_homes (λ b. [])
 fresh-settled next prev ties =
     settled next prev no_homes (λ b. [])
-    (λ b l. ties (1024 + b) (omega arith))
+    (λ b l. ties (1024 + b) (omega arith) (omega arith))
     (λ b l. refl)
     (λ b l k. sym (ap (λ o. is_home o b) (homeless k)))
 

@@ -88,6 +88,10 @@ module _ (s : Chains) where
   unfolding queues
   queues-many = length-map-range_with_len (row s) 0 64
 
+  -- (nothing cites it today)
+  pub in-queues : (b x : ℕ) → b < 64 → holds (row s b) x ≡ true → in_rows (queues s) x ≡ true
+  in-queues b x l i = in-at (queues s) b x (ap (λ q. holds q x) (queue-at b l) ∙ i)
+
   pub out-queues : (x : ℕ) → in_rows (queues s) x ≡ false → (k : ℕ) → k < 64 → holds (row s k) x ≡ false
   out-queues x out k l = ap (λ q. holds q x) (sym (queue-at k l)) ∙ in-out (queues s) k x out
 

@@ -17,6 +17,11 @@ module _ {K L G : Type 0} (k : Ghosts K L G) (ls : List L) (best : Option L) (li
   pub best-stops : slice_get ls x ≡ None → best_on k ls best (drop i line) ≡ None
   best-stops none = ap (best_on k ls best) next-is ∙ ap (option_and_then (λ a. best_on k ls (Some (better_of k best a)) (drop (i + 1) line))) none
 
+  -- one that was is counted in
+  -- (nothing cites it today)
+  pub best-more : (a : L) → slice_get ls x ≡ Some a → best_on k ls best (drop i line) ≡ best_on k ls (Some (better_of k best a)) (drop (i + 1) line)
+  best-more a some = ap (best_on k ls best) next-is ∙ ap (option_and_then (λ b. best_on k ls (Some (better_of k best b)) (drop (i + 1) line))) some
+
 module _ {K L G : Type 0} (k : Ghosts K L G) (ls : List L) where
   -- a station of the queue has the label, or the want of one, that the search answers
   abbrev pub Has : List ℕ → Option L → Type 0

@@ -2,7 +2,7 @@
 use Rattle.std.proofs.Common.{◌≡◌, ℕ, ◌+◌, ◌<◌, Bool, true, false, not, ◌&&◌, ◌||◌, List, [], ◌∷◌, ◌++◌, length, take, drop, Some, filter, sym, refl, ap, ◌∙◌, subst, ⊎_elim, append_assoc, arith, if◌then◌else◌, ◌==◌, slice_index}
 use Rattle.std.proofs.lemmas.List.{drop_more, take-append-drop, append-nil}
 use Rattle.std.proofs.lemmas.List.Elements.{filter_more}
-use Rattle.std.proofs.lemmas.Bool.{cases_eq, cases_Bool, cond-true, cond-false, and_left}
+use Rattle.std.proofs.lemmas.Bool.{cases_eq, cases_Bool, cond-true, cond-false, or_from, and_left}
 use Rattle.std.proofs.lemmas.Bool.Decides.{nat_tests}
 use Rattle.lists.specs.Stations.{holds, proper, top_of, rest_of}
 use Rattle.lists.specs.StationsLemmas.{proper-parts}
@@ -85,3 +85,11 @@ module _ (line : List ℕ) (i : ℕ) (within : i < length line) where
       -- it is in neither queue meanwhile
       pub out-of-moved : proper line ≡ true → (x < 1024) × (holds (filter p (take i line)) x ≡ false)
       out-of-moved ok = ((below-is ok).0, holds_kept p (take i line) x ∙ and_left _ _ (below-is ok).1)
+
+      -- (nothing cites it today)
+      pub out-of-rest : proper line ≡ true → (x < 1024) × (holds (rest_of queue) x ≡ false)
+      out-of-rest ok = (
+        (below-is ok).0,
+        ap (λ l. holds l x) next-rest ∙ holds-append (drop (i + 1) line) (filter q (take i line)) x ∙
+            or_from _ _ (below-is ok).2 (holds_kept q (take i line) x ∙ and_left _ _ (below-is ok).1),
+      )

@@ -11,7 +11,7 @@ use Rattle.net.specs.declared.star.Net.{Net}
 use Rattle.net.proofs.Firsts.{first-is, first-tells}
 
 -- starts that rise from one to the next rise over any stretch
-rises : (s : List ℕ) → Rising s → IsNonDecreasing s
+pub rises : (s : List ℕ) → Rising s → IsNonDecreasing s
 rises s r =
     IsNonDecreasingBy-from_all_adjacent (λ x. x) s
     (λ k d h. omega (arith, get_or_default_zero s k d (omega arith), get_or_default_zero s (k + 1) d h, r k h))

@@ -1,10 +1,11 @@
 -- Going along a list of links with a mark at each station met: it is a simple path where every link leads to a station without one.
-use Rattle.std.proofs.Common.{◌≡◌, ℕ, zero, suc, ◌+◌, ◌<◌, ◌≤◌, Bool, true, false, not, ◌&&◌, eqb, ltb, List, [], ◌∷◌, map, length, get_or, drop, set, replicate, Decides, sym, refl, ap, ◌∙◌, subst, inl, inr, arith, length-set, get_or-set_other, get_or-set_same}
+use Rattle.std.proofs.Common.{◌≡◌, ℕ, zero, suc, ◌+◌, ◌<◌, ◌≤◌, Bool, true, false, not, ◌&&◌, eqb, ltb, List, [], ◌∷◌, map, length, get_or, drop, set, replicate, Some, Decides, sym, refl, ap, ◌∙◌, subst, inl, inr, arith, length-set, get_or-set_other, get_or-set_same}
 use lib.ListN.{length-replicate}
-use Rattle.std.proofs.lemmas.List.{drop_all}
+use Rattle.std.proofs.lemmas.List.{drop_more, drop_all}
 use Rattle.std.proofs.lemmas.Bool.{and_parts, and_from, lt-ltb, ltb-true, eq-eqb, eqb-true, not-true, not_from_false, both_ways}
 use Rattle.std.proofs.lemmas.Bool.Decides.{Decides-at}
-use Rattle.net.specs.Table.{Table, ForwardStar, Leaves, station_count, link_count, head_at, tail_at}
+use Rattle.net.specs.Table.{Table, ForwardStar, Leaves, station_count, link_count, head_at, head_of, tail_at}
+use Rattle.net.proofs.Heads.{head-found}
 use Rattle.net.proofs.Tails.{lands, tail-is}
 use Rattle.paths.specs.Lists.{In, NoDup}
 use Rattle.paths.specs.Path.{Leads, PathFrom, stations_on}
@@ -100,3 +101,12 @@ onward-decides {t} star way n a room some w = (
 pub at-end : {P : Type 0} (t : Table) (m : List Bool) (way : List ℕ) (i a : ℕ) → length way ≤ i
     → Decides (onward t m a (drop i way)) P → Decides true P
 at-end t m way i a done known = Decides-at _ _ (rw (drop_all i way done)) known
+
+-- one step on, at a station without a mark, decides the same
+-- (nothing cites it today; the record of the move names it)
+pub go_on : {P : Type 0} (t : Table) (m : List Bool) (way : List ℕ) (i a : ℕ) → Decides (onward t m a (drop i way)) P
+    → i < length way → (v : ℕ) → Some v ≡ head_of t (get_or way i 0) → true ≡ eqb (tail_at t (get_or way i 0)) a → get_or m v false ≡ false
+    → Decides (onward t (set m v true) v (drop (i + 1) way)) P
+go_on t m way i a known here v e f met =
+    let (link, is) = head-found t (get_or way i 0) v e in
+    Decides-at _ _ (rw (drop_more way i 0 here, lt-ltb (get_or way i 0) (link_count t) link, ← f, ← is, met)) known

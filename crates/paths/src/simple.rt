@@ -8,8 +8,10 @@ use super::leaves::leaves;
 use net::star::Net;
 
 // Where the way begins if it is a path with a link: at the tail of its first one.
+// That the listing of simple paths is right follows from the net's invariant alone, and is stated here once for both answers of `is_simple`.
 fn beginning(net: &Net, way: &[u16]) -> Option<u16>
-    ensures { MatchOption result (¬ Simple (table_of net.now) way.now) (λ a. (0 < length way.now) × Leaves (table_of net.now) (slice_index way.now 0) a) }
+    ensures begins { MatchOption result (¬ Simple (table_of net.now) way.now) (λ a. (0 < length way.now) × Leaves (table_of net.now) (slice_index way.now 0) a) }
+    ensures listed { Listed (table_of net.now) }
 {
     net.tail(*way.first()?)
 }
@@ -38,7 +40,6 @@ fn leads_on(net: &Net, way: &[u16], from: u16) -> bool
 }
 
 // Whether a list of links is a simple path: at least one link, and no station twice. It may begin at any station.
-// That the listing of simple paths is right follows from the net's invariant alone.
 pub fn is_simple(net: &Net, way: &[u16]) -> bool
     ensures simple { IsTrue result ↔ (Simple (table_of net.now) way.now) }
     ensures listed { Listed (table_of net.now) }

@@ -51,12 +51,23 @@ and the script goes on.
 fn serve<N: Display, R: BufRead + Drop>(
     rt: &HostRuntime,
     name: &N,
-    reader: R,
+    mut reader: R,
 ) -> anyhow::Result<()> {
     let heap = rt.alloc();
     let mut desk = Desk::new();
-    for (number, line) in (1..).zip(reader.split(heap, b'\n')) {
-        let line = line.context(format_args!("cannot read line {number} of {name}"))?;
+    // All lines are read into one buffer: `split` would take a fresh one for each, and a line without a word takes no other memory.
+    let mut line = Vec::new(heap);
+    for number in 1..u64::MAX {
+        line.clear();
+        let count = reader
+            .read_until(b'\n', &mut line)
+            .context(format_args!("cannot read line {number} of {name}"))?;
+        if count == 0 {
+            break;
+        }
+        if line.last() == Some(&b'\n') {
+            let _ = line.pop();
+        }
         let reply = desk
             .reply(heap, number, line.as_slice())
             .context(format_args!("cannot answer line {number} of {name}"))?;

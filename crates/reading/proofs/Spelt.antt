@@ -1,5 +1,5 @@
 -- Reading words one by one gives what they spell.
-use Rattle.std.proofs.Common.{◌≡◌, ℕ, ◌+◌, ◌<◌, List, [], ◌∷◌, ◌++◌, length, get_or, drop, Some, None, Ok, Err, Option, Result, MatchResult, sym, refl, ap, ◌∙◌, append_assoc, arith, length-drop, get_or-drop, Bor}
+use Rattle.std.proofs.Common.{◌≡◌, ℕ, ◌+◌, ◌<◌, ◌≤◌, List, [], ◌∷◌, ◌++◌, length, get_or, take, drop, Some, None, Ok, Err, Option, Result, MatchResult, sym, refl, ap, ◌∙◌, append_assoc, arith, length-take, length-drop, get_or-take, get_or-drop, Bor}
 use lib.ListN.{length-map, get_or-map}
 use Rattle.std.proofs.lemmas.List.{drop_more, get_or_default}
 use Rattle.std.proofs.lemmas.List.FromFn.{length-enumerate_from, get_or-enumerate_from}
@@ -32,6 +32,15 @@ module _ {T : Type 0} (reads : List ℕ → Option T) (bounds : Bounds) (ws : Li
   -- it spells nothing
   pub read_none : i < length ws → None ≡ reads (get_or ws i []) → after xs (read_all reads bounds (i + 1) (drop i ws)) ≡ Err (NotNumber (i + 1) bounds)
   read_none h e = rw (drop_more ws i [] h, ← e)
+
+-- a word behind a reference
+-- (nothing cites it today; the record of the move names it)
+pub word_at : (refs : List (Bor (List ℕ))) (d : Bor (List ℕ)) (to i : ℕ) → i < to → (get_or refs i d).now ≡ get_or (take to (word_bytes refs)) i d.now
+word_at refs d to i h = sym (get_or-take to (word_bytes refs) i d.now h ∙ get_or-map (λ x. x.now) refs i d)
+
+-- (nothing cites it today; the record of the move names it)
+pub words_long : (refs : List (Bor (List ℕ))) (to : ℕ) → to ≤ length refs → length (take to (word_bytes refs)) ≡ to
+words_long refs to h = simp (length-take, length-map) (omega arith)
 
 -- the word at index i gives one value more, or ends the reading
 one_more : {T : Type 0} (reads : List ℕ → Option T) (bounds : Bounds) (ws : List (List ℕ)) (i : ℕ) (xs : List T) (o : Option T) → i < length ws → o ≡ reads (get_or ws i [])

@@ -9,7 +9,7 @@ use Rattle.paths.specs.Answer.{breaks, not_path}
 use Rattle.site.specs.Ways.{beginning}
 
 -- the place of a break, in a list of n links whose first has place i
-abbrev Placed : ℕ → ℕ → NotPath → Type 0
+abbrev pub Placed : ℕ → ℕ → NotPath → Type 0
 Placed i n Grades = ⊥
 Placed i n NoStation = ⊥
 Placed i n (NoLink j) = (i ≤ j) × (j < i + n)
@@ -28,7 +28,7 @@ longer : (i m n : ℕ) (e : NotPath) → 1 + m ≡ n → Placed (i + 1) m e → 
 longer i m n e f h = subst (λ x. Placed i x e) f (later i m e h)
 
 module _ (t : Table) where
-  placed : (p : List ℕ) (i a : ℕ) (e : NotPath) → breaks t i a p ≡ Some e → Placed i (length p) e
+  pub placed : (p : List ℕ) (i a : ℕ) (e : NotPath) → breaks t i a p ≡ Some e → Placed i (length p) e
   placed [] i a e h = let z : ◌≡◌ {A = ℕ} 0 1 = cc in absurd (omega arith)
   placed (l ∷ p) i a e h =
       elim (cases_lt l (link_count t)) [
@@ -46,7 +46,7 @@ module _ (t : Table) where
       ]
 
   -- the first link does begin where the way does
-  parted-late : (way : List ℕ) (j : ℕ) → breaks t 0 (beginning t way) way ≡ Some (Parted j) → (1 ≤ j) × (j < length way)
+  pub parted-late : (way : List ℕ) (j : ℕ) → breaks t 0 (beginning t way) way ≡ Some (Parted j) → (1 ≤ j) × (j < length way)
   parted-late [] j h = let z : ◌≡◌ {A = ℕ} 0 1 = cc in absurd (omega arith)
   parted-late (l ∷ p) j h =
       elim (cases_lt l (link_count t)) [
@@ -70,7 +70,7 @@ Told t count way (Parted i) = (count ≡ link_count t) × (breaks t 0 (beginning
 
 module _ {t : Table} (star : ForwardStar t) where
   -- a way begins at a station
-  begins : (way : List ℕ) → beginning t way < station_count t
+  pub begins : (way : List ℕ) → beginning t way < station_count t
   begins [] = omega (arith, star.some)
   begins (l ∷ p) =
       elim (cases_lt l (link_count t)) [
@@ -79,7 +79,7 @@ module _ {t : Table} (star : ForwardStar t) where
       ]
 
   -- what is refused of a way: the grades are not one per link, or the way breaks off
-  told-cases : (count : ℕ) (way : List ℕ) (e : NotPath) → not_path t count (beginning t way) way ≡ Some e
+  pub told-cases : (count : ℕ) (way : List ℕ) (e : NotPath) → not_path t count (beginning t way) way ≡ Some e
       → ((count ≡ link_count t → ⊥) × (e ≡ Grades)) ⊎ ((count ≡ link_count t) × (breaks t 0 (beginning t way) way ≡ Some e))
   told-cases count way e h =
       elim (cases_eq count (link_count t)) [

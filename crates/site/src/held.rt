@@ -1,6 +1,8 @@
 // What a site holds beside its net, in the kind that was chosen.
 ghost use Rattle.std.specs.Prelude.{◌≡◌, IfOk};
+ghost use Rattle.net.specs.Table.{Table};
 ghost use Rattle.net.specs.View.{table_of};
+ghost use Rattle.answers.specs.declared.verb.HeldVerb.TheVariants.{Grades};
 ghost use Rattle.script.specs.Words.{word_bytes};
 ghost use Rattle.site.specs.Commands.{HeldIn};
 ghost use Rattle.site.specs.Model.{held_in, new_in};
@@ -34,6 +36,17 @@ impl AnyHolding {
             KindName::Airtime => Ok(AnyHolding::ByAirtime(Holding::new(heap, stations, links)?)),
             KindName::Chance => Ok(AnyHolding::ByChance(Holding::new(heap, stations, links)?)),
             KindName::Margin => Ok(AnyHolding::ByMargin(Holding::new(heap, stations, links)?)),
+        }
+    }
+
+    // Takes the grades that the words of a line spell, over whatever net.
+    pub(crate) fn take_grades(&mut self, heap: Global, words: &[&[u8]]) -> Result<Answer, Trouble>
+        ensures { (t : Table) → HeldIn t Grades (held_in self.old) (word_bytes words.now) result (held_in self.new) }
+    {
+        match self {
+            AnyHolding::ByAirtime(held) => held.take_grades(heap, words),
+            AnyHolding::ByChance(held) => held.take_grades(heap, words),
+            AnyHolding::ByMargin(held) => held.take_grades(heap, words),
         }
     }
 

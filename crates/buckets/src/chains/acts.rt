@@ -1,5 +1,5 @@
 // What chains do. Casts lose nothing, which is proved, and indices are cast: `usize::from` at each is no plainer, and a step more in every proof.
-ghost use Rattle.std.specs.Prelude.{◌≡◌, ℕ, ◌+◌, ◌<◌, true, false, [], ◌∷◌, ◌++◌, length, if◌then◌else◌, nat_eq, option_map, slice_index};
+ghost use Rattle.std.specs.Prelude.{◌≡◌, ℕ, ◌+◌, ◌<◌, ◌≤◌, true, false, [], ◌∷◌, ◌++◌, length, if◌then◌else◌, nat_eq, option_map, slice_index};
 ghost use Rattle.lists.specs.Meaning.{count_below};
 ghost use Rattle.lists.specs.Stations.{top_of};
 ghost use Rattle.buckets.specs.Nodes.{nexts, prevs};
@@ -9,34 +9,40 @@ ghost use Rattle.buckets.specs.Links.{row, queues};
 use super::Chains;
 use crate::node::Node;
 use lists::station::Station;
-use std::array;
 
-// Nodes that are each tied to itself.
-fn empty_nodes() -> [Node; 1088]
-    ensures wide { length result ≡ 1088 }
-    ensures tied { (k : ℕ) → k < 1088 → (slice_index (nexts result) k ≡ k) × (slice_index (prevs result) k ≡ k) }
+// Ties each end to itself. A loop over the ends alone: what the nodes of stations say does not matter, and `array::from_fn` would write all of them.
+fn close(nodes: &mut [Node])
+    requires { length nodes.old ≡ 1088 }
+    ensures { (k : ℕ) → 1024 ≤ k → k < 1088 → (slice_index (nexts nodes.new) k ≡ k) × (slice_index (prevs nodes.new) k ≡ k) }
 {
-    array::from_fn(|i| Node {
-        next: i as u16,
-        prev: i as u16,
-    })
+    for end in 1024..1088u16 {
+        nodes[end as usize] = Node {
+            next: end,
+            prev: end,
+        };
+    }
 }
 
 impl Chains {
     pub(crate) fn new() -> Chains
         ensures { (k : ℕ) → k < 64 → row result k ≡ [] }
     {
+        let mut nodes = [Node { next: 0, prev: 0 }; 1088];
+        close(&mut nodes);
         Chains {
-            nodes: empty_nodes(),
+            nodes,
             home: [None; 1024],
             len: 0,
         }
     }
 
+    // In place, since a new value would have to be moved here.
     pub(crate) fn clear(&mut self)
         ensures { (k : ℕ) → k < 64 → row self.new k ≡ [] }
     {
-        *self = Chains::new();
+        close(&mut self.nodes);
+        self.home = [None; 1024];
+        self.len = 0;
     }
 
     // The chain that a station is in.

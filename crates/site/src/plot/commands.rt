@@ -13,7 +13,7 @@ use crate::held::AnyHolding;
 use crate::way::propose;
 use answers::answer::{Answer, Label};
 use answers::trouble::Trouble;
-use answers::verb::{KindName, SiteVerb};
+use answers::verb::{HeldVerb, KindName, SiteVerb};
 use kinds::airtime::by::ByAirtime;
 use kinds::chance::by::ByChance;
 use kinds::margin::by::ByMargin;
@@ -61,6 +61,8 @@ impl Site {
         match verb {
             SiteVerb::Kind => self.choose(heap, words),
             SiteVerb::Path => self.path(heap, words),
+            // Grades may be of any length, so no net is made for them.
+            SiteVerb::Held(HeldVerb::Grades) => self.held.take_grades(heap, words),
             SiteVerb::Held(verb) => {
                 let net = net_of(self.starts.as_slice(), self.heads.as_slice());
                 self.held.obey(heap, &net, words, verb)

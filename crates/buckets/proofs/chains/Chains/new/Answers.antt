@@ -1,13 +1,13 @@
 -- New chains are empty, and their ghost fields hold.
-use Rattle.std.proofs.Common.{refl}
+use Rattle.std.proofs.Common.{refl, arith}
 use Rattle.buckets.proofs.Fresh.{fresh-settled, fresh-within, fresh-counts}
 use Rattle.buckets.proofs.chains.Chains.new.Goals as goal
 
 pub invariant_of-result : goal.invariant_of-result
 invariant_of-result c =
-    let w = fresh-settled _ _ c.empty_nodes.ensures.tied in
+    let w = fresh-settled _ _ c.close.ensures in
     record {
-      sized = (c.empty_nodes.ensures.wide, refl);
+      sized = (omega arith, refl);
       ties = w.tied;
       once = w.once;
       homes = w.homes;
@@ -16,4 +16,4 @@ invariant_of-result c =
     }
 
 pub returns : goal.returns
-returns c = (fresh-settled _ _ c.empty_nodes.ensures.tied).are
+returns c = (fresh-settled _ _ c.close.ensures).are
