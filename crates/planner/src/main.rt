@@ -55,22 +55,29 @@ fn serve<N: Display, R: BufRead + Drop>(
 ) -> anyhow::Result<()> {
     let heap = rt.alloc();
     let mut desk = Desk::new();
-    // All lines are read into one buffer: `split` would take a fresh one for each, and a line without a word takes no other memory.
+    // All lines are read into one buffer, which keeps the room of the longest: `split` would take a fresh one for each, and a line without a word takes no other memory.
+    // Reading a line and carrying it out have their messages in arms of their own: as arguments of `context`, the two made a blank line cost more than twice as much.
     let mut line = Vec::new(heap);
     for number in 1..u64::MAX {
         line.clear();
-        let count = reader
-            .read_until(b'\n', &mut line)
-            .context(format_args!("cannot read line {number} of {name}"))?;
+        let count = match reader.read_until(b'\n', &mut line) {
+            Ok(count) => count,
+            Err(error) => {
+                return Err(error).context(format_args!("cannot read line {number} of {name}"));
+            }
+        };
         if count == 0 {
             break;
         }
         if line.last() == Some(&b'\n') {
             let _ = line.pop();
         }
-        let reply = desk
-            .reply(heap, number, line.as_slice())
-            .context(format_args!("cannot answer line {number} of {name}"))?;
+        let reply = match desk.reply(heap, number, line.as_slice()) {
+            Ok(reply) => reply,
+            Err(error) => {
+                return Err(error).context(format_args!("cannot answer line {number} of {name}"));
+            }
+        };
         if let Some(text) = reply {
             println!(rt; "{text}").context(format_args!(
                 "cannot write the answer to line {number} of {name}"
